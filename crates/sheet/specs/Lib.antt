@@ -1,0 +1,8 @@
+-- The specifications of the reader of sheets.
+pub mod Sheet
+pub mod Text
+pub mod Scan
+pub mod Fill
+pub mod Reads
+pub mod Quoted
+pub mod Box

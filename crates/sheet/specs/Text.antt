@@ -1,0 +1,126 @@
+-- What the text of one line says, from a place of the bytes on: a number, a key, the numbers of a value up to its LF.
+use Prim.Native.Nat.{ℕ, suc, _+_, _*_, _-_, _≤_, _<_}
+use mathlib.Core.Path.{_≡_}
+use mathlib.Core.Bool.{Bool, true, false}
+use mathlib.Core.Option.{Option, none, some}
+use mathlib.Core.List.{List, [], _∷_, _++_, List·Memᴰ as Mem}
+use lib.ListN.{length, take, drop}
+use lib.Dec.{eqb, leb}
+use Rattle.lines.specs.Limits.{maxLine}
+use Rattle.lines.specs.Lines.{Due, nothing, short, whole}
+use Rattle.sheet.specs.Sheet.{newline, equals, digit0, maxDigits, isDigit, valueFrom, numeral, words, eachNumeral, numerals, after, dueLine, cutLine}
+use Rattle.sheet.specs.declared.text.Numeral.{Numeral}
+use Rattle.sheet.specs.declared.text.Line.{Line}
+use Rattle.sheet.specs.declared.text.Opening.{Opening}
+pub mod Digits
+pub mod Values
+pub mod Keys
+pub mod Rooms
+pub mod Readings
+pub mod DueLines
+pub mod Places
+pub mod Rests
+
+-- the largest 16-bit number
+abbrev pub maxWord : ℕ
+maxWord = 65535
+
+-- ---- one number
+
+-- the digits that bytes begin with
+unfoldable pub digitsOf : List ℕ → List ℕ
+digitsOf [] = []
+digitsOf (c ∷ cs) = elim (isDigit c) [ true ↦ c ∷ digitsOf cs | false ↦ [] ]
+
+-- the digits are counted, up to one more than a number has; where they are no more than that, the value is what they say
+pub data Counted (ds : List ℕ) (count value : ℕ) : Type 0 where
+  few : count ≤ maxDigits → count ≡ length ds → value ≡ valueFrom 0 ds → Counted ds count value
+  many : count ≡ suc maxDigits → maxDigits < length ds → Counted ds count value
+
+-- the number that stands at a place, and the place after it
+unfoldable pub numberAt : List ℕ → ℕ → Numeral
+unfolding digitsOf numeral
+numberAt s at = elim (numeral (digitsOf (drop at s))) [ none ↦ Numeral.Bad | some v ↦ Numeral.Value v (at + length (digitsOf (drop at s))) ]
+
+-- ---- a value
+
+-- the numbers of a line, and what comes after its LF; or no line in its form
+pub data Value : Type 0 where
+  bad : Value
+  has : List ℕ → List ℕ → Value
+
+-- the numbers, if there are any in their form, before what comes after
+unfoldable pub ended : Option (List ℕ) → List ℕ → Value
+ended none rest = bad
+ended (some ns) rest = has ns rest
+
+-- the value that bytes begin with, up to the LF
+unfoldable pub valueOf : List ℕ → Value
+unfolding cutLine numerals ended
+valueOf bs = elim (cutLine bs) [ nothing ↦ bad | short ↦ bad | whole l rest ↦ ended (numerals l) rest ]
+
+-- the same with at least one number: nothing between spaces is no number
+unfoldable pub wordsOf : List ℕ → Value
+unfolding cutLine words eachNumeral ended
+wordsOf bs = elim (cutLine bs) [ nothing ↦ bad | short ↦ bad | whole l rest ↦ ended (eachNumeral (words l)) rest ]
+
+-- the line that bytes begin with, if it is the one that is due
+unfoldable pub lineOf : Due → List ℕ → Value
+unfolding cutLine dueLine ended
+lineOf w bs = elim (cutLine bs) [ nothing ↦ bad | short ↦ bad | whole l rest ↦ ended (dueLine w l) rest ]
+
+-- numbers put before those of a value
+unfoldable pub prefixed : List ℕ → Value → Value
+prefixed acc bad = bad
+prefixed acc (has ns rest) = has (acc ++ ns) rest
+
+-- what a test finds of a key: what comes after it, or nothing
+unfoldable pub matched : Bool → List ℕ → Option (List ℕ)
+matched true rest = some rest
+matched false rest = none
+
+-- what comes after the first equals sign
+unfoldable pub afterEquals : List ℕ → List ℕ
+afterEquals [] = []
+afterEquals (c ∷ cs) = elim (eqb c equals) [ true ↦ cs | false ↦ afterEquals cs ]
+
+-- the numbers up to the LF where each byte that is no digit ends a number, after digits that say v
+unfoldable pub restFrom : ℕ → List ℕ → Value
+unfolding prefixed
+restFrom v [] = bad
+restFrom v (c ∷ cs) = elim (leb digit0 c) [
+  | true ↦ restFrom (10 * v + (c - digit0)) cs
+  | false ↦ elim (eqb c newline) [ true ↦ has (v ∷ []) cs | false ↦ prefixed (v ∷ []) (restFrom 0 cs) ]
+]
+
+-- the bytes from a place on, without the key in front of them; or they begin with another
+abbrev pub Behind : List ℕ → List ℕ → ℕ → Opening → Type 0
+Behind k s at (Opening.At p) = (at ≤ p) × (p ≤ length s) × (after k (drop at s) ≡ some (drop p s))
+Behind k s at Opening.No = after k (drop at s) ≡ none
+
+-- where the value of the line that is due begins, from a place on; or no such line begins there
+abbrev pub Opened : Due → List ℕ → ℕ → Opening → Type 0
+Opened w s at (Opening.At p) = (at ≤ p) × (p ≤ length s) × (lineOf w (drop at s) ≡ valueOf (drop p s))
+Opened w s at Opening.No = lineOf w (drop at s) ≡ bad
+
+-- ---- the numbers of a value, kept in a line's room
+
+-- numbers that fit no line: too many, or one too large for 16 bits
+pub data TooBig (ns : List ℕ) : Type 0 where
+  long : maxLine < length ns → TooBig ns
+  wide : (x : ℕ) → Mem x ns → maxWord < x → TooBig ns
+
+-- the first n numbers of the room are those read so far; or n is above the count of the room, and those read so far fit no line
+pub data Holds (n : ℕ) (room acc : List ℕ) : Type 0 where
+  kept : n ≤ maxLine → length room ≡ maxLine → acc ≡ take n room → Holds n room acc
+  lost : n ≡ suc maxLine → TooBig acc → Holds n room acc
+
+-- a line of n numbers, which ends at a place, unless they fit no line
+unfoldable pub countedTo : ℕ → ℕ → Line
+countedTo n e = elim (leb n maxLine) [ true ↦ Line.Whole n e | false ↦ Line.Unfit ]
+
+-- what is told of a value that begins at a place of the bytes, with the room as it is left
+abbrev pub Told : Value → List ℕ → ℕ → Line → List ℕ → Type 0
+Told v s at (Line.Whole n e) room = (n ≤ maxLine) × (at < e) × (e ≤ length s) × (length room ≡ maxLine) × (v ≡ has (take n room) (drop e s))
+Told v s at Line.Unfit room = (ns : List ℕ) × (rest : List ℕ) × (v ≡ has ns rest) × TooBig ns
+Told v s at Line.Bad room = v ≡ bad
