@@ -1,0 +1,17 @@
+pub mod Checks
+pub mod Tests
+pub mod Run
+pub mod Fit
+pub mod Example
+pub mod Members
+pub mod Places
+pub mod Sets
+pub mod Notions
+pub mod Firsts
+pub mod Faults
+pub mod Lined
+pub mod Items
+pub mod Conditions
+pub mod Condition4
+pub mod Condition5
+pub mod Check

@@ -1,0 +1,80 @@
+// The table check: whether a table of numbers passes.
+ghost use Rattle.table.specs.Check.{Checks};
+use lines::Shape;
+use verdict::from_reduced;
+use walk::read_lines;
+
+mod sets; // sets.rt: sets of numbers below 64, one number each
+mod places; // places.rt: what stands at the places of the table's numbers
+mod walk; // walk.rt: the lines read one after the other, and the places noted
+mod grammar; // grammar.rt: the productive and the reachable nonterminals, and unit chains
+mod faults; // faults.rt: the grammar's lowest fault
+mod firsts; // firsts.rt: the kinds that can begin each nonterminal
+mod items; // items.rt: the items and go lines of a state
+mod condition_1; // condition_1.rt: state 0's beginning, the accept rule, dots above 0
+mod condition_2; // condition_2.rt: no two items agree
+mod condition_3; // condition_3.rt: items with dot 0 are called for
+mod condition_4; // condition_4.rt: rules after a dot are items, with sets large enough
+mod condition_5; // condition_5.rt: go lines move the dots on
+mod condition_6; // condition_6.rt: every state is led to
+mod condition_7; // condition_7.rt: at most one action on a token
+mod verdict; // verdict.rt: the grammar first, then the conditions, in document 01's order
+
+// How many kinds, nonterminals, rules and states a table has.
+pub(crate) struct Sizes {
+    pub terms: usize,
+    pub nonterms: usize,
+    pub rules: usize,
+    pub states: usize,
+}
+
+// A notion of a grammar's nonterminals: it derives some string of tokens, it stands in some string derived from the start, or it comes to a
+// symbol through rules whose right side is one symbol.
+pub(crate) enum Notion {
+    Productive,
+    Reachable,
+    ComesTo(usize),
+}
+
+// What a search found: a number, or none.
+pub(crate) enum Found {
+    At(usize),
+    Nothing,
+}
+
+// What reading a table's lines answers: too many numbers, the line that does not fit, or the sizes of the table.
+pub(crate) enum Read {
+    TooLong,
+    Unfit(usize),
+    Fits(Sizes),
+}
+
+// What the check tells. A line, a nonterminal or a state is told by its number.
+pub enum Check {
+    // The table passes: how many states it has.
+    Passes(usize),
+    // It has too many numbers.
+    TooLong,
+    // A line does not fit, ends early or runs on.
+    Unfit(usize),
+    // The lowest nonterminal that is not productive or not reachable.
+    NotReduced(usize),
+    // The lowest nonterminal on a unit ring.
+    Ring(usize),
+    // The first condition that is broken, from 1, and the lowest state that breaks it.
+    Broken(usize, usize),
+}
+
+// Checks a table of numbers.
+pub fn check_table(table: &[u16]) -> Check
+    ensures { λ r. ⌜ Checks (now (table .entry)) r ⌝ }
+{
+    let mut rule_at = [0u16; Shape::MAX_RULES];
+    let mut state_at = [0u16; Shape::MAX_STATES];
+    let read = read_lines(table, &mut rule_at, &mut state_at);
+    match read {
+        Read::TooLong => Check::TooLong,
+        Read::Unfit(line) => Check::Unfit(line),
+        Read::Fits(sizes) => from_reduced(table, &rule_at, &state_at, sizes),
+    }
+}
