@@ -1,0 +1,24 @@
+-- The laws by which the functions meet their contracts, and the theorems.
+pub mod Frame
+pub mod Freeing
+pub mod Keep
+pub mod Below
+pub mod Turns
+pub mod Taking
+pub mod Sprouting
+pub mod Growing
+pub mod Shortness
+pub mod Picking
+pub mod Spreading
+pub mod Runs
+pub mod Holding
+pub mod Reducing
+pub mod Parting
+pub mod Leaves
+pub mod Reading
+pub mod Lookups
+pub mod Starting
+pub mod Stepping
+pub mod Phasing
+pub mod Tokens
+pub mod Theorems
