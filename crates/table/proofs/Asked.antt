@@ -1,14 +1,16 @@
--- What an item asks of the rules of the nonterminal after its dot: something always, and the set of it in each case of what stands next.
+-- What an item asks of the rules of the nonterminal after its dot: something always; the set of it in each case of what stands next; and the
+-- symbols after the dot as the code reads them.
 use Prim.Native.Nat.{ℕ, suc, _+_, _-_, _^_, _<_, _≤_}
 use native.Mathlib.Omega.{arith}
 use native.Mathlib.Decide.{decLe}
 use mathlib.Core.Path.{_≡_, refl, sym, ap, _∙_, subst}
 use mathlib.Core.List.{List, [], _∷_, _++_, nil≢cons, head-eq-of-cons-eq, tail-eq-of-cons-eq}
-use mathlib.Core.List.{List·Memᴰ as Mem, List·Memᴰ·head as Mem·head, List·Memᴰ·eq-of-singleton}
+use mathlib.Core.List.{List·Memᴰ as Mem, List·Memᴰ·eq-of-singleton}
 use mathlib.Core.Logic.{_⊎_, inl, inr, ⊎-elim}
 use lib.ListN.{length, getD, take, drop, length-drop}
 use Rattle.theory.specs.Basics.{cut-at, getD-cases, drop-next, drop-mem}
 use Rattle.theory.specs.Grammar.{Rule, Grammar, WellFormed, Reduced, Begins, Yields, end, kind, by, start}
+use Rattle.theory.specs.Grammar.Closure.{begins-kind}
 use Rattle.theory.specs.Grammar.Derive.{derives-yields}
 use Rattle.theory.specs.Grammar.First.{yields-token, begins-first}
 use Rattle.theory.specs.Grammar.Fruitful.{Fruitful, fruitful-split, rule-fruitful}
@@ -16,6 +18,7 @@ use Rattle.theory.specs.Table.{Item, rest, ruleAt, acceptRule}
 use Rattle.lines.specs.Limits.{maxNonterms}
 use Rattle.table.specs.declared.Sizes.{Sizes}
 use Rattle.table.specs.Run.Sets.{begins-kinds}
+use Rattle.table.specs.Members.{mem-at}
 use Rattle.table.specs.Sets.{SetOf}
 use Rattle.table.specs.Places.{Held, grammarIn}
 use Rattle.table.specs.Places.Step.{held-formed, held-nonterms}
@@ -27,7 +30,7 @@ use Rattle.table.proofs.FirstSets.{first-kind, first-row}
 use Rattle.table.proofs.SetOf.{set-as, set-one}
 use Rattle.table.proofs.Inside.{set-wider}
 
--- ---- what can begin a kind
+-- ---- what can begin a symbol
 
 -- what a kind yields begins with it
 kind-yields : {g : Grammar} → WellFormed g → {α β : List ℕ} (x a : ℕ) (w : List ℕ) → x < g .terms → Yields g α β → α ≡ x ∷ [] → β ≡ a ∷ w → a ≡ x
@@ -39,9 +42,25 @@ kind-yields W x a w l (by r m y z) p q = let h = W .lefts r m .0 in let e = head
 kind-begins : {g : Grammar} → WellFormed g → (x a : ℕ) → x < g .terms → Begins g x a → a ≡ x
 kind-begins W x a l (w, d, o) = kind-yields W x a w l (derives-yields d o) refl refl
 
--- and it does
-begins-itself : {g : Grammar} (x : ℕ) → x < g .terms → Begins g x x
-begins-itself x l = begins-first {v = []} (kind l end) refl
+-- what can begin a kind, as a set
+kind-set : {g : Grammar} → WellFormed g → (x : ℕ) → x < g .terms → SetOf (Begins g x) (suc (g .terms)) (2 ^ x)
+kind-set {g} W x l = set-as (set-one (suc (g .terms)) x (omega arith)) (λ a e. subst (λ z. Begins g x z) (sym e) (begins-kind x l)) (λ a k. kind-begins W x a l k)
+
+-- kinds alone can begin a symbol, so a set of them is one with the end mark too
+begins-wider : {g : Grammar} {x set : ℕ} → SetOf (Begins g x) (g .terms) set → SetOf (Begins g x) (suc (g .terms)) set
+begins-wider h = set-wider (omega arith) (λ a k. begins-kinds k) h
+
+-- what can begin a symbol, by the rows
+pub begins-set : (g : Grammar) (rows : List ℕ) → WellFormed g → Firsts g rows → (x : ℕ) → x ≤ g .terms + g .nonterms → (x ≡ g .terms → ⊥) →
+    SetOf (Begins g x) (suc (g .terms)) (firstSet (g .terms) rows x)
+begins-set g rows W F x l n = go (decLe x (g .terms))
+  where
+    go : Dec (x ≤ g .terms) → SetOf (Begins g x) (suc (g .terms)) (firstSet (g .terms) rows x)
+    go (yes h) = rw (first-kind (g .terms) rows x h) (kind-set W x (omega arith))
+    go (no h) =
+        let e : nonterm g (x - g .terms - 1) ≡ x = omega arith in
+        rw (first-row (g .terms) rows x (omega arith))
+        (subst (λ y. SetOf (Begins g y) (suc (g .terms)) (getD rows (x - g .terms - 1) 0)) e (begins-wider (F .each (x - g .terms - 1) (omega arith))))
 
 -- ---- the set that is asked
 
@@ -62,14 +81,6 @@ module _ {g : Grammar} {i : Item} {b : ℕ} where
       from a (Asks.next y ys f k) = subst (λ z. Begins g z a) (sym (head-eq-of-cons-eq (tail-eq-of-cons-eq (sym e ∙ f)))) k
       from a (Asks.last f m) = absurd (nil≢cons (sym (tail-eq-of-cons-eq (sym e ∙ f))))
 
--- what can begin a kind, as a set
-kind-set : {g : Grammar} → WellFormed g → (x : ℕ) → x < g .terms → SetOf (Begins g x) (suc (g .terms)) (2 ^ x)
-kind-set {g} W x l = set-as (set-one (suc (g .terms)) x (omega arith)) (λ a e. subst (λ z. Begins g x z) (sym e) (begins-itself x l)) (λ a k. kind-begins W x a l k)
-
--- kinds alone can begin a symbol, so a set of them is one with the end mark too
-begins-wider : {g : Grammar} {x set : ℕ} → SetOf (Begins g x) (g .terms) set → SetOf (Begins g x) (suc (g .terms)) set
-begins-wider h = set-wider (omega arith) (λ a k. begins-kinds k) h
-
 -- ---- something is asked
 
 -- of a right side's symbols each can be begun by some token
@@ -86,11 +97,7 @@ right-begins {g} W R r m d b x xs e =
 -- an item with a set and a symbol after its dot asks for something
 pub some-asked : {g : Grammar} → WellFormed g → Reduced g → (i : Item) → 1 ≤ length (i .ahead) → (b : ℕ) (more : List ℕ) → rest g i ≡ b ∷ more →
     (a : ℕ) × Asks g b i a
-some-asked {g} W R i n b [] e = first (i .ahead) refl n
-  where
-    first : (l : List ℕ) → i .ahead ≡ l → 1 ≤ length l → (a : ℕ) × Asks g b i a
-    first [] q h = absurd (omega arith)
-    first (a ∷ l) q h = (a, Asks.last e (rw q (Mem·head refl)))
+some-asked {g} W R i n b [] e = (getD (i .ahead) 0 0, Asks.last e (mem-at (i .ahead) 0 0 n))
 some-asked {g} W R i n b (x ∷ xs) e = go (getD-cases (g .rules) (i .rule) (acceptRule g))
   where
     go : Mem (ruleAt g (i .rule)) (g .rules) ⊎ ((length (g .rules) ≤ i .rule) × (ruleAt g (i .rule) ≡ acceptRule g)) → (a : ℕ) × Asks g b i a
@@ -125,6 +132,17 @@ module _ (g : Grammar) (i : Item) {b : ℕ} {more : List ℕ} (e : rest g i ≡ 
           let k : y ≡ x = ap (λ (l : List ℕ). getD l 0 (g .terms)) (sym f) ∙ (sym (next-of g i b more e) ∙ q) in
           (ys, e ∙ ap (λ (l : List ℕ). b ∷ l) (f ∙ ap (λ (z : ℕ). z ∷ ys) k))
 
+-- ---- symbols as the code reads them
+
+-- the symbol next after the one after the dot, by an item's rule and dot
+pub next-symbol : (g : Grammar) (i : Item) {r d x : ℕ} → r ≡ i .rule → d ≡ i .dot → x ≡ getD (ruleAt g r .right) (d + 1) (g .terms) →
+    getD (ruleAt g (i .rule) .right) (i .dot + 1) (g .terms) ≡ x
+next-symbol g i p q e = sym (e ∙ λ j. getD (ruleAt g (p j) .right) (q j + 1) (g .terms))
+
+-- the symbol after the dot
+pub dot-symbol : (g : Grammar) (i : Item) {r d x : ℕ} → r ≡ i .rule → d ≡ i .dot → x ≡ getD (ruleAt g r .right) d (g .terms) → afterDot g i ≡ x
+dot-symbol g i p q e = sym (e ∙ λ j. getD (ruleAt g (p j) .right) (q j) (g .terms))
+
 -- a symbol of a right side, or the end mark past its end, is no higher than the last nonterminal
 symbol-in : {g : Grammar} → WellFormed g → (r j : ℕ) → getD (ruleAt g r .right) j (g .terms) ≤ g .terms + g .nonterms
 symbol-in {g} W r j = ⊎-elim (λ m. in-rule (getD-cases (g .rules) r (acceptRule g)) m) (λ (l, q). omega arith) (getD-cases (ruleAt g r .right) j (g .terms))
@@ -136,27 +154,6 @@ symbol-in {g} W r j = ⊎-elim (λ m. in-rule (getD-cases (g .rules) r (acceptRu
         let h = List·Memᴰ·eq-of-singleton n in
         let s = W .has-start in
         omega arith
-
--- what can begin a symbol, by the rows
-pub begins-set : (g : Grammar) (rows : List ℕ) → WellFormed g → Firsts g rows → (x : ℕ) → x ≤ g .terms + g .nonterms → (x ≡ g .terms → ⊥) →
-    SetOf (Begins g x) (suc (g .terms)) (firstSet (g .terms) rows x)
-begins-set g rows W F x l n = go (decLe x (g .terms))
-  where
-    go : Dec (x ≤ g .terms) → SetOf (Begins g x) (suc (g .terms)) (firstSet (g .terms) rows x)
-    go (yes h) = rw (first-kind (g .terms) rows x h) (kind-set W x (omega arith))
-    go (no h) =
-        let e : nonterm g (x - g .terms - 1) ≡ x = omega arith in
-        rw (first-row (g .terms) rows x (omega arith))
-        (subst (λ y. SetOf (Begins g y) (suc (g .terms)) (getD rows (x - g .terms - 1) 0)) e (begins-wider (F .each (x - g .terms - 1) (omega arith))))
-
--- the symbol of a place found by an item's rule and dot, as the code reads it
-pub next-symbol : (g : Grammar) (i : Item) {r d x : ℕ} → r ≡ i .rule → d ≡ i .dot → x ≡ getD (ruleAt g r .right) (d + 1) (g .terms) →
-    getD (ruleAt g (i .rule) .right) (i .dot + 1) (g .terms) ≡ x
-next-symbol g i p q e = sym (e ∙ λ j. getD (ruleAt g (p j) .right) (q j + 1) (g .terms))
-
--- so the symbol after the dot
-pub dot-symbol : (g : Grammar) (i : Item) {r d x : ℕ} → r ≡ i .rule → d ≡ i .dot → x ≡ getD (ruleAt g r .right) d (g .terms) → afterDot g i ≡ x
-dot-symbol g i p q e = sym (e ∙ λ j. getD (ruleAt g (p j) .right) (q j) (g .terms))
 
 -- a symbol that the code has read has a row
 pub symbol-below : {ns places : List ℕ} {z : Sizes} → Held ns places z → (r j : ℕ) {x : ℕ} → x ≡ getD (ruleAt (grammarIn ns) r .right) j (grammarIn ns .terms) →

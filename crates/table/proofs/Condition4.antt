@@ -62,12 +62,12 @@ asks-low : {g : Grammar} {b a : ℕ} {i : Item} → ItemIn g i → Asks g b i a 
 asks-low h (Asks.next x xs e k) = let l = begins-kinds k in omega arith
 asks-low {a = a} h (Asks.last e m) = let l = h .ahead-in a m in omega arith
 
--- The rows of what a state's items ask and give tell condition 4. Rows and rules are counted as the code counts them.
 module _ (t : Table) (s : ℕ) (W : WellFormed (t .grammar)) (each : (i : Item) → InState t s i → ItemIn (t .grammar) i) where
+  -- the state's items
   abbrev items : List Item
   items = stateAt t s .items
 
-  -- of all rules what is asked is in the rows of what is given
+  -- what the rows ask of each rule is given; kinds and rules are counted as the code counts them
   abbrev AllGiven : ℕ → ℕ → List ℕ → List ℕ → Type 0
   AllGiven terms rules asked given = (r : ℕ) → r < rules → (a : ℕ) → In (getD asked (ruleAt (t .grammar) r .left - terms - 1) 0) a → In (getD given r 0) a
 
@@ -78,6 +78,7 @@ module _ (t : Table) (s : ℕ) (W : WellFormed (t .grammar)) (each : (i : Item) 
       let (a, b) = W .lefts (ruleAt (t .grammar) r) (rule-mem (t .grammar) r l) in
       (ruleAt (t .grammar) r .left - t .grammar .terms - 1, omega arith, refl, omega arith)
 
+  -- the rows of what the state's items ask and give tell condition 4
   pub rows-tell : Reduced (t .grammar) → Condition2 t s → (asked given : List ℕ) {terms rules : ℕ} {b : Bool} → terms ≡ t .grammar .terms →
       rules ≡ length (t .grammar .rules) → Asked (t .grammar) items (length items) asked → Given (t .grammar) items (length items) given →
       Tells b (AllGiven terms rules asked given) → Tells b (Condition4 t s)

@@ -1,14 +1,15 @@
 -- Condition 5 holds exactly where every item moves onward and every go line is led to; and what the tests of an item tell.
 use Prim.Native.Nat.{ℕ, suc, _+_, _-_, _≤_, _<_}
 use native.Mathlib.Omega.{arith}
-use mathlib.Core.Path.{_≡_, refl, sym, ap, _∙_, subst}
+use mathlib.Core.Path.{_≡_, sym, ap, _∙_, subst}
 use mathlib.Core.Bool.{Bool}
-use mathlib.Core.List.{List, [], _∷_, nil≢cons}
-use mathlib.Core.List.{List·Memᴰ as Mem, List·Memᴰ·head as Mem·head}
+use mathlib.Core.List.{nil≢cons}
+use mathlib.Core.List.{List·Memᴰ as Mem}
 use lib.ListN.{length, getD}
 use Rattle.theory.specs.Grammar.{Grammar}
 use Rattle.theory.specs.Table.{Table, Item, Go, stateAt, InState, After, Complete, ruleAt, Fits, Condition2, Condition5}
 use Rattle.lines.specs.Ranges.{ItemIn}
+use Rattle.table.specs.Members.{mem-at}
 use Rattle.table.specs.Tests.Tell.{Tells, tells-as}
 use Rattle.table.specs.Items.{Agrees}
 use Rattle.table.specs.Items.Dot.{afterDot, of-after}
@@ -62,11 +63,6 @@ pub symbol-before : (g : Grammar) (i j : Item) → Agrees (j .rule) (j .dot - 1)
 symbol-before g i j (a, b) p q e =
     e ∙ ((λ k. getD (ruleAt g (p k) .right) (q k - 1) (g .terms)) ∙ λ k. getD (ruleAt g (sym a k) .right) (sym b k) (g .terms))
 
--- a set has a first member
-first-ahead : (l : List ℕ) → 1 ≤ length l → (a : ℕ) × Mem a l
-first-ahead [] h = absurd (omega arith)
-first-ahead (a ∷ l) h = (a, Mem·head refl)
-
 -- ---- onward
 
 module _ (t : Table) (s : ℕ) (i : Item) where
@@ -88,12 +84,12 @@ module _ (t : Table) (s : ℕ) (i : Item) where
   onward-tells F n x to A (l, m, e, q) D = tells-as on from
     where
       on : AllOn to → Onward t s i
-      on f y B = (l, m, e ∙ same, put (f (first-ahead (i .ahead) n .0) (first-ahead (i .ahead) n .1)))
+      on f y B = (l, m, e ∙ same, put (f (getD (i .ahead) 0 0) (mem-at (i .ahead) 0 0 n)))
         where
           same : x ≡ y
           same = sym (of-after (t .grammar) i x (A .0) (A .1)) ∙ of-after (t .grammar) i y (B .0) (B .1)
 
-          put : (j : Item) × InState t to j × Agrees (i .rule) (i .dot + 1) j × Mem (first-ahead (i .ahead) n .0) (j .ahead) →
+          put : (j : Item) × InState t to j × Agrees (i .rule) (i .dot + 1) j × Mem (getD (i .ahead) 0 0) (j .ahead) →
               (j : Item) × InState t (l .to) j × Moved i j
           put (j, k, (r, d), u) = (
             j,
@@ -136,8 +132,7 @@ module _ (t : Table) (s x : ℕ) (j : Item) where
       ((a : ℕ) → (i : Item) × InState t s i × Agrees (j .rule) (j .dot - 1) i × Mem a (i .ahead) → ⊥) → Back t s x j → ⊥
   back-missing some n none h =
       let (i, m, a, v) = h (omega arith) in
-      let (b, k) = first-ahead (i .ahead) (some i m) in
-      none b (i, m, before i v, k)
+      none (getD (i .ahead) 0 0) (i, m, before i v, mem-at (i .ahead) 0 0 (some i m))
 
   -- where such an item is, and has x after its dot, this tells that the item comes from the state
   pub back-tells : (i : Item) → InState t s i → Agrees (j .rule) (j .dot - 1) i → After (t .grammar) i x → (j .dot ≡ 0 → ⊥) → Condition2 t s →

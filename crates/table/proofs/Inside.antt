@@ -44,12 +44,3 @@ pub set-inside : {P Q : ℕ → Type 0} {n a b : ℕ} {t : Bool} → SetOf P n a
 set-inside g h low high = tells-as
     (λ f k p. h .holds k (f k (g .shows k (low k p) p)))
     (λ f k i. let q = f k (g .holds k i) in h .shows k (high k q) q)
-
--- a set that is not empty has a member
-pub some-in : (n set : ℕ) → set < 2 ^ n → (set ≡ 0 → ⊥) → (k : ℕ) × In set k
-some-in zero set l h = absurd (h (omega arith))
-some-in (suc n) set l h = go (ℕ-discrete (set % 2) 1) (some-in n (set / 2) (omega arith))
-  where
-    go : Dec (set % 2 ≡ 1) → ((set / 2 ≡ 0 → ⊥) → (k : ℕ) × In (set / 2) k) → (k : ℕ) × In set k
-    go (yes e) up = (0, low-bit set ∙ e)
-    go (no e) up = let (k, i) = up (λ z. h (omega arith)) in (suc k, half-bit set k ∙ i)

@@ -42,8 +42,8 @@ among-more is k P (inr p) = (k, omega arith, p)
 
 -- ---- rows
 
--- at most n rows; row r has what one of the first k items has for r
 module _ (is : List Item) (w n : ℕ) (P : ℕ → Item → ℕ → Type 0) where
+  -- each of n rows has what one of the first k items has for it
   abbrev pub Rows : ℕ → List ℕ → Type 0
   Rows k rows = (r : ℕ) → r < n → SetOf (λ a. Among is k (λ i. P r i a)) w (getD rows r 0)
 

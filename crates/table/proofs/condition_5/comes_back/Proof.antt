@@ -1,5 +1,5 @@
 -- `condition_5::comes_back` meets its contract: the dot is 0, or the symbol before it is another, or no such item is there, or the sets tell.
-use Prim.Native.Nat.{ℕ, suc, _-_}
+use Prim.Native.Nat.{ℕ, _-_}
 use native.Mathlib.Omega.{arith}
 use mathlib.Core.Path.{_∙_, sym, ap, subst}
 use lib.Dec.{lit<}
@@ -13,7 +13,8 @@ use Rattle.table.specs.Sets.{In}
 use Rattle.table.proofs.condition_5.comes_back.Tie as tie
 use Rattle.table.proofs.Condition5.{ahead-as, ahead-low, symbol-before, back-none, back-other, back-missing, back-tells}
 use Rattle.table.proofs.Bits.{none-in}
-use Rattle.table.proofs.Inside.{set-inside, some-in}
+use Rattle.table.proofs.Inside.{set-inside}
+use Rattle.table.proofs.Clash.{some-in}
 use Rattle.table.proofs.condition_5.comes_back.Statement.{statement}
 
 item-dot-requires : tie.Need-item-dot-requires
@@ -69,7 +70,7 @@ returns-4 c = let S = c .before .before .before .before .before .before .before 
     let m = S .pre .1 .states-are in
     let each = state-in (S .pre .1) s l .items-in in
     let old = ahead-as t s (c .before .before .before .before .before .before .item-rule .ensures) (ap (λ (n : ℕ). n - 1) (c .before .before .before .before .before .before .before .before .item-dot .ensures)) (c .before .before .before .set-of .ensures) in
-    let (a, u) = some-in (suc (t .grammar .terms)) (c .before .before .before .set-of .result) (old .below) (c .before .before .if3 .left) in
+    let (a, u) = some-in (c .before .before .before .set-of .result) (c .before .before .if3 .left) in
     let (i, n, g, k) = old .holds a u in
     let q = sym (symbol-before (t .grammar) i j g (c .before .before .before .before .before .before .item-rule .ensures) (c .before .before .before .before .before .before .before .before .item-dot .ensures) (c .before .before .before .before .before .symbol-at .ensures)) ∙ c .before .before .before .before .if2 .left in
     back-tells t s (S .args .x) j i n g (_, after-of (t .grammar) i (S .args .x) q (λ z. S .pre .4 (z ∙ sym (S .pre .0 .terms-are)))) (λ z. c .before .before .before .before .before .before .before .if1 .left (c .before .before .before .before .before .before .before .before .item-dot .ensures ∙ z))
