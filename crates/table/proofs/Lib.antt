@@ -22,3 +22,7 @@ pub mod Condition4
 pub mod Condition5
 pub mod Answered
 pub mod Theorems
+pub mod Columns
+pub mod Actions
+pub mod LookedUp
+pub mod SameLookUps

@@ -15,3 +15,4 @@ pub mod Conditions
 pub mod Condition4
 pub mod Condition5
 pub mod Check
+pub mod LookUps

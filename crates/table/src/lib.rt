@@ -18,7 +18,12 @@ mod condition_4; // condition_4.rt: rules after a dot are items, with sets large
 mod condition_5; // condition_5.rt: go lines move the dots on
 mod condition_6; // condition_6.rt: every state is led to
 mod condition_7; // condition_7.rt: at most one action on a token
+mod entries; // entries.rt: the look-ups of a table, built once
 mod verdict; // verdict.rt: the grammar first, then the conditions, in document 01's order
+
+pub use entries::ACTS;
+pub use entries::GOES;
+pub use entries::look_ups;
 
 // How many kinds, nonterminals, rules and states a table has.
 pub(crate) struct Sizes {

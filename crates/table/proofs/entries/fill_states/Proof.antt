@@ -1,0 +1,75 @@
+-- `entries::fill_states` meets its contract: the loop keeps that the columns of the states passed are written, and all else is 0.
+use Prim.Native.Nat.{ℕ, suc, _+_, _-_, _≤_}
+use native.Mathlib.Omega.{arith}
+use mathlib.Core.Path.{_≡_, _∙_, ap}
+use lib.ListN.{length, replicate}
+use borrow.Author.Needs.{needs}
+use Rattle.theory.specs.Table.{reduceOn, goto}
+use Rattle.table.specs.Places.{tableIn, grammarIn}
+use Rattle.table.specs.LookUps.Columns.{Columns}
+use Rattle.table.specs.LookUps.{actSize, goSize, coded}
+use Rattle.table.proofs.Columns.{columns-none, columns-more, columns-all}
+use Rattle.table.proofs.entries.fill_states.Statement.{statement}
+use Rattle.table.proofs.entries.fill_states.Tie as tie
+
+abbrev Inv-loop : tie.InvT-loop
+Inv-loop table rule-at state-at sizes acts₀ go₀ s₀ acts go s = (s ≤ sizes .states) × Columns (sizes .terms) (sizes .states) actSize (λ a u. coded (reduceOn (tableIn table) u a)) s acts ×
+    Columns (suc (sizes .terms + sizes .nonterms)) (sizes .states) goSize (λ y u. coded (goto (tableIn table) u y)) s go
+
+abbrev μ-loop : tie.MeasureT-loop
+μ-loop table rule-at state-at sizes acts₀ go₀ s₀ acts go s = sizes .states - s
+
+clear-requires : tie.Need-clear-requires Inv-loop μ-loop
+clear-requires c κs = search needs
+
+clear-requires-2 : tie.Need-clear-requires-2 Inv-loop μ-loop
+clear-requires-2 c κs = search needs
+
+loop-holds : tie.Need-loop-holds Inv-loop μ-loop
+loop-holds c = let S = c .before .before .before .before .before in
+    let a : length (S .args .acts .now) ≡ actSize = search needs in
+    let b : length (S .args .go .now) ≡ goSize = search needs in
+    (omega arith, columns-none _ (c .before .before .clear .ensures ∙ ap (λ (n : ℕ). replicate n 0) a), columns-none _ (c .clear2 .ensures ∙ ap (λ (n : ℕ). replicate n 0) b))
+
+note-acts-requires : tie.Need-note-acts-requires Inv-loop μ-loop
+note-acts-requires c κs = let S = c .before .before .before .before .before .before .before .before .before in (S .pre .0, S .pre .1, c .before .if1 .taken, c .before .before .before .loop .inv .1 .long)
+
+note-gos-requires : tie.Need-note-gos-requires Inv-loop μ-loop
+note-gos-requires c κs = let S = c .before .before .before .before .before .before .before .before .before .before .before in (S .pre .1, c .before .before .before .if1 .taken, c .before .before .before .before .before .loop .inv .2 .long)
+
+add-s : tie.Need-add-s Inv-loop μ-loop
+add-s c = let t = c .before .before .before .before .if1 .taken in let e = c .before .before .before .before .before .before .before .before .before .before .before .before .pre .0 .states-are in let m = c .before .before .before .before .before .before .before .before .before .before .before .before .pre .0 .in-range .state-count .1 in omega arith
+
+loop-less : tie.Need-loop-less Inv-loop μ-loop
+loop-less c = let t = c .before .before .before .before .if1 .taken in omega arith
+
+loop-again : tie.Need-loop-again Inv-loop μ-loop
+loop-again c = let t = c .before .before .before .before .if1 .taken in
+    let (p, acts, go) = c .before .before .before .before .before .before .loop .inv in
+    (omega arith, columns-more t acts (c .before .before .note-acts .ensures), columns-more t go (c .note-gos .ensures))
+
+returns : tie.Need-returns Inv-loop μ-loop
+returns c = let H = c .before .before .before .before .before .before .before .before .pre .0 in
+    let (p, acts, go) = c .before .before .loop .inv in
+    let l = c .if1 .left in
+    let g = grammarIn (c .before .before .before .before .before .before .before .before .args .table .now) in
+    let a = H .terms-are in
+    let b = H .nonterms-are in
+    let e : suc (c .before .before .before .before .before .before .before .before .args .sizes .terms + c .before .before .before .before .before .before .before .before .args .sizes .nonterms) ≡ suc (g .terms + g .nonterms) = omega arith in
+    (columns-all (omega arith) a (H .states-are) acts, columns-all (omega arith) e (H .states-are) go)
+
+pub fill-states-spec : {M : Type 1} → statement M
+fill-states-spec =
+    tie.close
+    (tie.spec
+    Inv-loop
+    μ-loop
+    clear-requires
+    clear-requires-2
+    loop-holds
+    note-acts-requires
+    note-gos-requires
+    add-s
+    loop-less
+    loop-again
+    returns)
