@@ -62,6 +62,12 @@ pub fn twos() -> Grammar {
     grammar(1, 2, &[&[2, 3, 3], &[2, 2, 3], &[3, 0]])
 }
 
+/// Two kinds of nested things by turns, both opened by 0; only one of them is closed, by 1; 2 is a thing. Two readings of opened things, one
+/// node apart, meet when the next 1 comes: merging then goes down to the lowest node.
+pub fn turns() -> Grammar {
+    grammar(3, 2, &[&[4, 0, 5], &[4, 2], &[5, 0, 4, 1], &[5, 2]])
+}
+
 /// The grammars by name, all of them LR(1).
 pub fn named() -> Vec<(&'static str, Grammar)> {
     vec![
@@ -75,6 +81,7 @@ pub fn named() -> Vec<(&'static str, Grammar)> {
         ("pairs", pairs()),
         ("prefixed", prefixed()),
         ("twos", twos()),
+        ("turns", turns()),
     ]
 }
 

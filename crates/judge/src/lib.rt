@@ -5,12 +5,12 @@ mod room; // room.rt: the room after a judgement
 mod run; // run.rt: the forest's run over a tail
 mod tail; // tail.rt: the tokens of a tail
 
+pub use numbers::numbers_of;
+pub use numbers::refusal;
 ghost use Rattle.table.specs.Check.{Checks};
 ghost use Rattle.table.specs.declared.Check.{Check};
 ghost use Rattle.judge.specs.Judge.Into.{JudgesInto};
 use lines::Shape;
-use numbers::numbers_of;
-use numbers::refusal;
 use ready::judge_ready;
 use table::Check;
 use table::check_table;

@@ -5,7 +5,7 @@ use crate::Judgement;
 use table::Check;
 
 // A refusal: no steps.
-pub(crate) fn refusal(answer: usize, value: usize) -> Judgement
+pub fn refusal(answer: usize, value: usize) -> Judgement
     ensures { λ r. ⌜ r ≡ refusal answer value ⌝ }
 {
     Judgement {
@@ -16,7 +16,7 @@ pub(crate) fn refusal(answer: usize, value: usize) -> Judgement
 }
 
 // The check's answer handed out as a judgement.
-pub(crate) fn numbers_of(c: Check) -> Judgement
+pub fn numbers_of(c: Check) -> Judgement
     ensures { λ r. ⌜ r ≡ handed c ⌝ }
 {
     match c {

@@ -2,7 +2,8 @@
 // room's words are zero afterwards, and the place up to which the words after them are as they were: the room's end. Before the call every
 // word is JUNK.
 //
-// First the marked tails of document 01, then tails and rooms at the limits, and refusals of which several rows hold.
+// First the marked tails of document 01, then tails and rooms at the limits, refusals of which several rows hold, and the deepest trees that a tail
+// can merge.
 use judge::Judgement;
 use judge::judge;
 use libc::STDOUT_FILENO;
@@ -13,15 +14,20 @@ use room::fill;
 use sheet::BOX;
 use sheet::GO_TARGET;
 use sheet::STATES;
+use turns::TURNS;
 
 mod room; // room.rt: the words of a room before and after
 mod sheet; // sheet.rt: the small box sheet's table
+mod turns; // turns.rt: a table in which deep trees meet
 
 // Some words more than a tail calls for.
 const MORE: usize = 5;
 
 // The words of a room that a tail of the most tokens calls for, and those more.
 const WORDS: usize = Shape::STRIDE * STATES * (Shape::MAX_TAIL + 2) + MORE;
+
+// Half the most tokens.
+const HALF: usize = 2048;
 
 // Prints a number after a space.
 fn show(number: usize) {
@@ -114,6 +120,31 @@ fn several_rows(room: &mut [u32]) {
     case_of(b"no-table", &[], &tail, room, 0);
 }
 
+// Puts the token 1 at every place from a place on.
+fn close(tail: &mut [u16], from: usize) {
+    let mut i = from;
+    while i < tail.len() {
+        tail[i] = 1;
+        i += 1;
+    }
+}
+
+// Judges a tail that merges two trees as deep as a tail can make them.
+fn deep_once(room: &mut [u32]) {
+    let mut tail = [0u16; Shape::MAX_TAIL];
+    tail[Shape::MAX_TAIL - 2] = 2;
+    tail[Shape::MAX_TAIL - 1] = 1;
+    case_of(b"deep-once", &TURNS, &tail, room, WORDS - MORE);
+}
+
+// Judges a tail that merges deep trees again at each of many tokens.
+fn deep_often(room: &mut [u32]) {
+    let mut tail = [0u16; Shape::MAX_TAIL];
+    close(&mut tail, HALF);
+    tail[HALF] = 2;
+    case_of(b"deep-often", &TURNS, &tail, room, WORDS - MORE);
+}
+
 fn main() {
     let mut room = [0u32; WORDS];
     marked(&mut room);
@@ -121,4 +152,6 @@ fn main() {
     long_tails(&mut room);
     last_tokens(&mut room);
     several_rows(&mut room);
+    deep_once(&mut room);
+    deep_often(&mut room);
 }
