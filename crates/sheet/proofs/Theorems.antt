@@ -1,4 +1,4 @@
--- What the reader's contract, as it stands in the code, determines: any two outcomes that it allows are equal, the slice's too.
+-- What the contracts of `read` and `read_tail`, as they stand in the code, determine: any two outcomes that they allow are equal, the slice's too.
 use Prim.Native.Nat.{ℕ}
 use mathlib.Core.Path.{_≡_, refl, sym, ap, _∙_}
 use mathlib.Core.Bool.{true, false}
@@ -7,8 +7,11 @@ use contract.Lifetimes.{Lfts}
 use denote.Ref.{now}
 use Rattle.sheet.specs.Reads.{answerOf}
 use Rattle.sheet.specs.Reads.Slices.{unique-into}
+use Rattle.sheet.specs.Tail.Exact.{unique-tail}
 use Rattle.sheet.specs.declared.Answer.{Answer}
+use Rattle.sheet.specs.declared.TailLine.{TailLine}
 use Rattle.sheet.proofs.read.Reads as R
+use Rattle.sheet.proofs.read_tail.Reads as T
 
 -- the answer of a number and a value
 answerBack : ℕ × ℕ → Answer
@@ -42,3 +45,8 @@ pub unique : (κs : Lfts 2) (a : _) (r r′ : Answer) (e e′ : _) → R.Learnt 
 unique κs a r r′ e e′ p q =
     let (x, y) = unique-into (now (a .0)) (now (a .1 .0)) (answerOf r) (answerOf r′) (now (e .1 .0)) (now (e′ .1 .0)) p q in
     (answer-once r r′ x, y)
+
+-- any two outcomes that the contract of `read_tail` allows are equal: what is told, and what the slice holds at the end
+pub tail-unique : (κs : Lfts 2) (a : _) (r r′ : TailLine) (e e′ : _) → T.Learnt κs a r e → T.Learnt κs a r′ e′ →
+    (r ≡ r′) × (now (e .1 .0) ≡ now (e′ .1 .0))
+tail-unique κs a r r′ e e′ p q = unique-tail (now (a .0)) (now (a .1 .0)) r r′ (now (e .1 .0)) (now (e′ .1 .0)) p q

@@ -4,5 +4,6 @@ pub mod Text
 pub mod Scan
 pub mod Fill
 pub mod Reads
+pub mod Tail
 pub mod Quoted
 pub mod Box

@@ -8,7 +8,7 @@ use lib.ListN.{length, take, drop}
 use lib.Dec.{eqb, leb}
 use Rattle.lines.specs.Limits.{maxLine}
 use Rattle.lines.specs.Lines.{Due, nothing, short, whole}
-use Rattle.sheet.specs.Sheet.{newline, equals, digit0, maxDigits, isDigit, valueFrom, numeral, words, eachNumeral, numerals, after, dueLine, cutLine}
+use Rattle.sheet.specs.Sheet.{newline, equals, digit0, maxDigits, isDigit, valueFrom, numeral, words, eachNumeral, numerals, after, line, dueLine, cutLine}
 use Rattle.sheet.specs.declared.text.Numeral.{Numeral}
 use Rattle.sheet.specs.declared.text.Line.{Line}
 use Rattle.sheet.specs.declared.text.Opening.{Opening}
@@ -17,6 +17,7 @@ pub mod Values
 pub mod Keys
 pub mod Rooms
 pub mod Readings
+pub mod Keyed
 pub mod DueLines
 pub mod Places
 pub mod Rests
@@ -63,6 +64,11 @@ valueOf bs = elim (cutLine bs) [ nothing ↦ bad | short ↦ bad | whole l rest 
 unfoldable pub wordsOf : List ℕ → Value
 unfolding cutLine words eachNumeral ended
 wordsOf bs = elim (cutLine bs) [ nothing ↦ bad | short ↦ bad | whole l rest ↦ ended (eachNumeral (words l)) rest ]
+
+-- the line that bytes begin with, if it has the key
+unfoldable pub keyed : List ℕ → List ℕ → Value
+unfolding cutLine line ended
+keyed k bs = elim (cutLine bs) [ nothing ↦ bad | short ↦ bad | whole l rest ↦ ended (line k l) rest ]
 
 -- the line that bytes begin with, if it is the one that is due
 unfoldable pub lineOf : Due → List ℕ → Value

@@ -28,13 +28,13 @@ fn after_equals(s: &[u8], at: usize) -> usize
 }
 
 // The place after a line, and how many numbers it has.
-struct Put {
+pub(crate) struct Put {
     next: usize,
     count: usize,
 }
 
-// Writes the numbers of a value that is in its form, from a place on, behind a place of the slice, and their count at that place.
-fn put_value(s: &[u8], at: usize, out: &mut [u16], w: usize) -> Put
+// Writes the numbers of a value that is in its form, from a place on, to the slice, from a place on.
+pub(crate) fn put_value(s: &[u8], at: usize, out: &mut [u16], w: usize) -> Put
     requires { ⌜ Puttable (now s) at w (length (now out)) ⌝ }
     ensures { λ r. ⌜ PutAt (now (s .entry)) at w (now (out .entry)) (r .next) (r .count) (now (out .exit)) ⌝ }
 {
@@ -47,11 +47,10 @@ fn put_value(s: &[u8], at: usize, out: &mut [u16], w: usize) -> Put
         if DIGIT_0 <= c {
             v = 10 * v + digit(c);
         } else {
-            out[w + 1 + n] = v as u16;
+            out[w + n] = v as u16;
             n += 1;
             v = 0;
             if c == LF {
-                out[w] = n as u16;
                 return Put { next: i, count: n };
             }
         }
@@ -68,7 +67,8 @@ pub(crate) fn fill(bytes: &[u8], out: &mut [u16])
     let mut w = 0;
     while at < bytes.len() {
         let value = after_equals(bytes, at);
-        let put = put_value(bytes, value, out, w);
+        let put = put_value(bytes, value, out, w + 1);
+        out[w] = put.count as u16;
         at = put.next;
         w = w + put.count + 1;
     }

@@ -12,7 +12,7 @@ use lines::Shape;
 
 pub(crate) const LF: u8 = b'\n';
 
-const SPACE: u8 = b' ';
+pub(crate) const SPACE: u8 = b' ';
 
 pub(crate) const DIGIT_0: u8 = b'0';
 
@@ -22,7 +22,7 @@ const DIGIT_9: u8 = b'9';
 const MAX_DIGITS: usize = 5;
 
 // The largest number of 16 bits.
-const MAX_WORD: u32 = 65535;
+pub(crate) const MAX_WORD: u32 = 65535;
 
 // The digits from a place on: how many, at most one more than a number has, and what they say.
 struct Digits {
@@ -81,7 +81,7 @@ fn digits_from(s: &[u8], at: usize) -> Digits
 }
 
 // The form of a number: 1 to 5 digits, no leading zero except 0 itself.
-fn number(s: &[u8], at: usize) -> Numeral
+pub(crate) fn number(s: &[u8], at: usize) -> Numeral
     requires { ⌜ at ≤ length (now s) ⌝ }
     ensures { λ r. ⌜ r ≡ numberAt (now (s .entry)) at ⌝ }
 {
@@ -128,7 +128,7 @@ fn begins(s: &[u8], at: usize, key: &[u8]) -> bool
 }
 
 // Where the value behind a key and its equals sign begins.
-fn open_line(s: &[u8], at: usize, key: &[u8]) -> Opening
+pub(crate) fn open_line(s: &[u8], at: usize, key: &[u8]) -> Opening
     requires { ⌜ at ≤ length (now s) ⌝ }
     ensures { λ r. ⌜ Behind (now (key .entry)) (now (s .entry)) at r ⌝ }
 {

@@ -5,9 +5,9 @@ use mathlib.Core.Path.{_≡_, refl, sym, ap, _∙_, subst}
 use mathlib.Core.Bool.{Bool, true, false}
 use mathlib.Core.Option.{some}
 use mathlib.Core.List.{List, [], _∷_, _++_}
-use lib.ListN.{length, take, drop, length-append, length-drop, drop-of-length-le}
+use lib.ListN.{length, take, drop, set, length-append, length-drop, drop-of-length-le}
 use lib.Dec.{leb}
-use lib.Seq.{take-length, take-at, drop-drop, drop-append-add, paste}
+use lib.Seq.{take-length, take-at, drop-drop, drop-append-add, paste, length-paste}
 use Rattle.lines.specs.Basics.{never}
 use Rattle.lines.specs.Limits.{maxBytes}
 use Rattle.lines.specs.Lines.{Due, Draft, start, isEnd, flat, fits, accept}
@@ -16,8 +16,9 @@ use Rattle.lines.specs.Ranges.Bounds.{Bounded, start-bounded, next-bounded, fit
 use Rattle.sheet.specs.Sheet.{Read, readSheet, sheetAt, inFront}
 use Rattle.sheet.specs.Sheet.Exact.{found}
 use Rattle.sheet.specs.Sheet.Steps.{at-end, at-missing}
-use Rattle.sheet.specs.Text.{has, valueOf, afterEquals}
+use Rattle.sheet.specs.Text.{maxWord, has, valueOf, afterEquals}
 use Rattle.sheet.specs.Text.DueLines.{sheet-goes, value-behind}
+use Rattle.sheet.specs.Text.Places.{put-count}
 use Rattle.sheet.specs.Fill.{Fillable, filled}
 use Rattle.sheet.specs.Fill.Putting.{Puttable, PutAt}
 
@@ -157,8 +158,8 @@ module _ (bs before out : List ℕ) (at w : ℕ) (f : Filling bs before out at w
         let d = filling-length in let g = f .placed in let k = f .sheet .fits in
         omega arith
 
-    -- there is room for it
-    pub filling-room : p ≤ length bs → Puttable bs p w (length out)
+    -- there is room for it behind its count
+    pub filling-room : p ≤ length bs → Puttable bs p (w + 1) (length out)
     filling-room l =
         let (few, small) = fits-slight (f .draft) (its-next .xs) (f .bounded) its-fit in
         record {
@@ -167,29 +168,50 @@ module _ (bs before out : List ℕ) (at w : ℕ) (f : Filling bs before out at w
           rest = its-next .rest;
           value = its-next .value;
           some-numbers = fits-some (f .draft) (its-next .xs) its-fit;
-          few = omega arith;
           small = λ x m. let k = small x m in omega arith;
-          fits = its-room;
+          fits = let a = its-room in omega arith;
         }
 
-    -- it is written
-    pub filling-next : (next count : ℕ) (after : List ℕ) → PutAt bs p w out next count after → Filling bs before after next (w + count + 1)
-    filling-next next count after t =
-        let g : has (its-next .xs) (its-next .rest) ≡ has (t .numbers) (drop next bs) = sym (its-next .value) ∙ t .value in
-        let x : its-next .xs ≡ t .numbers = cc in
-        let r : its-next .rest ≡ drop next bs = cc in
-        let (a, b) = accept-says (f .draft) (its-next .then) (its-next .xs) (its-next .taken) in
-        record {
-          inside = t .inside;
-          sheet = f .sheet;
-          line = suc (f .line);
-          draft = its-next .then;
-          bounded = subst Bounded b (next-bounded (f .draft) (its-next .xs) (f .bounded) a);
-          front = f .front ++ (length (t .numbers) ∷ t .numbers);
-          placed = let c = length-append (f .front) (length (t .numbers) ∷ t .numbers) in let d = f .placed in let e = t .counted in omega arith;
-          left = (λ i. sheetAt (suc (f .line)) (f .front ++ (length (sym x i) ∷ sym x i)) (its-next .then) (sym r i)) ∙ its-next .goes;
-          held =
-              t .written ∙ written (t .numbers) ∙
-              ap (λ (k : ℕ). (f .front ++ (length (t .numbers) ∷ t .numbers)) ++ drop k before)
-              (let c = t .counted in let z : w + suc (length (t .numbers)) ≡ w + count + 1 = omega arith in z);
-        }
+    module _ (next count : ℕ) (after : List ℕ) (t : PutAt bs p (w + 1) out next count after) where
+      same : (its-next .xs ≡ t .numbers) × (its-next .rest ≡ drop next bs)
+      same =
+          let g : has (its-next .xs) (its-next .rest) ≡ has (t .numbers) (drop next bs) = sym (its-next .value) ∙ t .value in
+          (cc, cc)
+
+      -- its numbers with their count are no more than all
+      room-left : w + length (t .numbers) < length out
+      room-left = let a = its-room in let b = ap (λ (x : List ℕ). length x) (same .0) in omega arith
+
+      -- its count is of 16 bits, there is room for it before its numbers, and the slice is as long as it was
+      pub filling-count : (count ≤ maxWord) × (w + count < length before) × (length after ≡ length before)
+      filling-count =
+          let c = t .counted ∙ ap (λ (x : List ℕ). length x) (sym (same .0)) in
+          let a = fits-slight (f .draft) (its-next .xs) (f .bounded) its-fit .0 in
+          let b = room-left in
+          let d = filling-length in
+          let e = t .counted in (
+            omega arith,
+            omega arith,
+            ap (λ (x : List ℕ). length x) (t .written) ∙ length-paste out (w + 1) (t .numbers) (length (t .numbers)) (omega arith) (omega arith) ∙ d,
+          )
+
+      -- it is written, and its count before it
+      pub filling-next : Filling bs before (set after w count) next (w + count + 1)
+      filling-next =
+          let ys : List ℕ = t .numbers in
+          let (x, r) = same in
+          let (a, b) = accept-says (f .draft) (its-next .then) (its-next .xs) (its-next .taken) in
+          let c = t .counted in
+          record {
+            inside = t .inside;
+            sheet = f .sheet;
+            line = suc (f .line);
+            draft = its-next .then;
+            bounded = subst Bounded b (next-bounded (f .draft) (its-next .xs) (f .bounded) a);
+            front = f .front ++ (length ys ∷ ys);
+            placed = let e = length-append (f .front) (length ys ∷ ys) in let d = f .placed in omega arith;
+            left = (λ i. sheetAt (suc (f .line)) (f .front ++ (length (sym x i) ∷ sym x i)) (its-next .then) (sym r i)) ∙ its-next .goes;
+            held =
+                (λ i. set (t .written i) w (c i)) ∙ put-count out w ys room-left ∙ written ys ∙
+                ap (λ (k : ℕ). (f .front ++ (length ys ∷ ys)) ++ drop k before) (let z : w + suc (length ys) ≡ w + count + 1 = omega arith in z);
+          }

@@ -1,38 +1,36 @@
--- What is written of one value, and laws of its loop: the numbers so far stand behind their place, and those that are left are still to be read.
-use Prim.Native.Nat.{ℕ, suc, _+_, _*_, _-_, _≤_, _<_}
+-- What is written of one value, and laws of its loop: the numbers so far stand from their place on, and those that are left are still to be read.
+use Prim.Native.Nat.{ℕ, _+_, _*_, _-_, _≤_, _<_}
 use native.Mathlib.Omega.{arith}
 use native.Mathlib.Numerals.{add-one}
 use mathlib.Core.Path.{_≡_, refl, sym, ap, _∙_}
 use mathlib.Core.List.{List, [], _∷_}
 use lib.ListN.{length, drop, getD, set, length-drop, drop-of-length-le}
-use lib.Seq.{paste, paste-zero, length-paste}
+use lib.Seq.{paste, paste-zero, paste-suc, length-paste}
 use Rattle.theory.specs.Basics.{drop-mem, drop-getD, drop-next, drop-bound}
 use Rattle.lines.specs.Basics.{All, never}
 use Rattle.sheet.specs.Sheet.{newline, digit0}
 use Rattle.sheet.specs.Text.{maxWord, Value, bad, has, valueOf, prefixed, restFrom}
 use Rattle.sheet.specs.Text.Digits.{rest-at}
-use Rattle.sheet.specs.Text.Places.{put-more, put-count}
 use Rattle.sheet.specs.Text.Rests.{rest-digit, rest-lf, rest-other, rest-none, rest-above, rest-value}
 
--- from a place on stands a value in its form, whose numbers, which are some, are of 16 bits and have room behind a place of a slice
+-- from a place on stands a value in its form, whose numbers, which are some, are of 16 bits and have room from a place of a slice on
 pub record Puttable (s : List ℕ) (at w room : ℕ) : Type 0 where
   pub inside : at ≤ length s
   pub numbers : List ℕ
   pub rest : List ℕ
   pub value : valueOf (drop at s) ≡ has numbers rest
   pub some-numbers : 1 ≤ length numbers
-  pub few : length numbers ≤ maxWord
   pub small : All (λ x. x ≤ maxWord) numbers
-  pub fits : w + length numbers < room
+  pub fits : w + length numbers ≤ room
 
--- the value's numbers are written behind a place, and their count at it; the next line begins at a place
+-- the value's numbers are written from a place on; the next line begins at a place
 pub record PutAt (s : List ℕ) (at w : ℕ) (before : List ℕ) (next count : ℕ) (after : List ℕ) : Type 0 where
   pub passed : at < next
   pub inside : next ≤ length s
   pub numbers : List ℕ
   pub value : valueOf (drop at s) ≡ has numbers (drop next s)
   pub counted : count ≡ length numbers
-  pub written : after ≡ paste before w (length numbers ∷ numbers) (suc (length numbers))
+  pub written : after ≡ paste before w numbers (length numbers)
 
 -- so many numbers are written, and of the next number the digits so far say v
 pub record Putting (s : List ℕ) (at w : ℕ) (before out : List ℕ) (i n v : ℕ) : Type 0 where
@@ -40,7 +38,7 @@ pub record Putting (s : List ℕ) (at w : ℕ) (before out : List ℕ) (i n v : 
   pub passed : at ≤ i
   pub inside : i ≤ length s
   pub left : restFrom v (drop i s) ≡ has (drop n (given .numbers)) (given .rest)
-  pub held : out ≡ paste before (w + 1) (given .numbers) n
+  pub held : out ≡ paste before w (given .numbers) n
 
 -- at the start
 pub putting-start : (s : List ℕ) (at w : ℕ) (before : List ℕ) → Puttable s at w (length before) → Putting s at w before before at 0 0
@@ -49,7 +47,7 @@ putting-start s at w before g = record {
   passed = omega arith;
   inside = g .inside;
   left = rest-value (drop at s) (g .numbers) (g .rest) (g .some-numbers) (g .value);
-  held = paste-zero before (w + 1) (g .numbers);
+  held = paste-zero before w (g .numbers);
 }
 
 module _ (s : List ℕ) (at w : ℕ) (before out : List ℕ) (i n v : ℕ) (p : Putting s at w before out i n v) where
@@ -80,7 +78,7 @@ module _ (s : List ℕ) (at w : ℕ) (before out : List ℕ) (i n v : ℕ) (p : 
   pub putting-length : length out ≡ length before
   putting-length =
       let a = putting-room in let b = p .given .fits in
-      ap (λ (x : List ℕ). length x) (p .held) ∙ length-paste before (w + 1) (p .given .numbers) n (omega arith) (omega arith)
+      ap (λ (x : List ℕ). length x) (p .held) ∙ length-paste before w (p .given .numbers) n (omega arith) (omega arith)
 
   -- bytes are left
   pub putting-some : length s ≤ i → ⊥
@@ -101,18 +99,19 @@ module _ (s : List ℕ) (at w : ℕ) (before out : List ℕ) (i n v : ℕ) (p : 
     }
 
     -- the number is written
-    put-one : v ≡ current .number → set out (w + 1 + n) v ≡ paste before (w + 1) (p .given .numbers) (n + 1)
+    put-one : v ≡ current .number → set out (w + n) v ≡ paste before w (p .given .numbers) (n + 1)
     put-one e =
         let g = drop-getD n (p .given .numbers) (current .number) (current .others) (current .is) in
         let a = putting-room in let b = p .given .fits in
-        (λ j. set (p .held j) (w + 1 + n) ((e ∙ sym g) j)) ∙ put-more before w (p .given .numbers) n (omega arith) a
+        (λ j. set (p .held j) (w + n) ((e ∙ sym g) j)) ∙ paste-suc before w (p .given .numbers) n 0 (omega arith) a ∙
+        ap (paste before w (p .given .numbers)) (sym (add-one n))
 
     -- a byte that ends a number, but not the line
-    pub putting-next : getD s i 0 < digit0 → (getD s i 0 ≡ newline → ⊥) → Putting s at w before (set out (w + 1 + n) v) (i + 1) (n + 1) 0
+    pub putting-next : getD s i 0 < digit0 → (getD s i 0 ≡ newline → ⊥) → Putting s at w before (set out (w + n) v) (i + 1) (n + 1) 0
     unfolding prefixed
     putting-next l m = by (restFrom 0 (drop (i + 1) s)) refl
       where
-        by : (u : Value) → restFrom 0 (drop (i + 1) s) ≡ u → Putting s at w before (set out (w + 1 + n) v) (i + 1) (n + 1) 0
+        by : (u : Value) → restFrom 0 (drop (i + 1) s) ≡ u → Putting s at w before (set out (w + n) v) (i + 1) (n + 1) 0
         by bad q =
             let e : bad ≡ has (drop n (p .given .numbers)) (p .given .rest) =
             sym (ap (restFrom v) (rest-at s i h) ∙ rest-other v (getD s i 0) (drop (i + 1) s) l m ∙ ap (prefixed (v ∷ [])) q) ∙ p .left in never cc
@@ -132,7 +131,7 @@ module _ (s : List ℕ) (at w : ℕ) (before out : List ℕ) (i n v : ℕ) (p : 
             }
 
     -- the LF
-    pub putting-lf : getD s i 0 ≡ newline → PutAt s at w before (i + 1) (n + 1) (set (set out (w + 1 + n) v) w (n + 1))
+    pub putting-lf : getD s i 0 ≡ newline → PutAt s at w before (i + 1) (n + 1) (set out (w + n) v)
     putting-lf e =
         let f : has (v ∷ []) (drop (i + 1) s) ≡ has (drop n (p .given .numbers)) (p .given .rest) =
         sym (ap (restFrom v) (rest-at s i h) ∙ rest-lf v (getD s i 0) (drop (i + 1) s) e) ∙ p .left in
@@ -147,7 +146,5 @@ module _ (s : List ℕ) (at w : ℕ) (before out : List ℕ) (i n v : ℕ) (p : 
           numbers = p .given .numbers;
           value = p .given .value ∙ ap (λ (x : List ℕ). has (p .given .numbers) x) (sym r);
           counted = c;
-          written =
-              (λ j. set (put-one (cc) j) w (c j)) ∙ ap (λ (x : ℕ). set (paste before (w + 1) (p .given .numbers) x) w (length (p .given .numbers))) c ∙
-              put-count before w (p .given .numbers) (p .given .fits);
+          written = put-one (cc) ∙ ap (paste before w (p .given .numbers)) c;
         }

@@ -191,7 +191,8 @@ digits-text (c ∷ cs) e =
     let (a, b) = within-says digit0 digit9 c p in
     two (le-leb space c (omega arith)) (digits-text cs q)
 
-numbers-text : (ns : List ℕ) → Short ns → all isText (printNumbers ns) ≡ true
+-- printed numbers have no LF
+pub numbers-text : (ns : List ℕ) → Short ns → all isText (printNumbers ns) ≡ true
 unfolding printNumbers unwords all
 numbers-text [] h = refl
 numbers-text (n ∷ []) h = digits-text (digits n) (digits-are n (h n (Mem·head refl)))
@@ -215,7 +216,8 @@ line-text : (w : Due) (xs : List ℕ) → Short xs → all isText (printLine w x
 unfolding printLine all
 line-text w xs h = all-append isText (key w) (equals ∷ printNumbers xs) (key-text w) (numbers-text xs h)
 
-text-cut : (l rest : List ℕ) → all isText l ≡ true → cutLine (l ++ (newline ∷ rest)) ≡ Cut.whole l rest
+-- bytes that are no LF, ended by an LF, are the first line
+pub text-cut : (l rest : List ℕ) → all isText l ≡ true → cutLine (l ++ (newline ∷ rest)) ≡ Cut.whole l rest
 unfolding cutLine all
 text-cut [] rest e = refl
 text-cut (c ∷ l) rest e =

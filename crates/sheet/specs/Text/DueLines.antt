@@ -1,7 +1,7 @@
 -- Laws of the line that is due: its key in front of its value; and what such a line makes of the reading of a sheet.
 use Prim.Native.Nat.{ℕ, suc, _+_, _≤_}
 use native.Mathlib.Omega.{arith}
-use mathlib.Core.Path.{_≡_, refl, sym, ap, _∙_, subst}
+use mathlib.Core.Path.{_≡_, refl, sym, ap, _∙_}
 use mathlib.Core.Bool.{Bool, true, false, not}
 use mathlib.Core.Option.{Option, none, some}
 use mathlib.Core.Logic.{inl, inr, ⊎-elim}
@@ -13,30 +13,15 @@ use Rattle.theory.specs.Basics.{both}
 use Rattle.lines.specs.Basics.{never, impossible}
 use Rattle.lines.specs.Lines.{Due, key, isEnd, Draft, accept, Cut}
 use Rattle.lines.specs.Lines.Fits.{all}
-use Rattle.sheet.specs.Sheet.{newline, equals, after, line, dueLine, cutLine, Read, sheetAt}
-use Rattle.sheet.specs.Sheet.Numerals.{all-append}
-use Rattle.sheet.specs.Sheet.Forms.{isText, key-text, front-after, after-front, cut-nothing, cut-whole}
+use Rattle.sheet.specs.Sheet.{equals, after, dueLine, cutLine, Read, sheetAt}
+use Rattle.sheet.specs.Sheet.Forms.{key-text, front-after, cut-nothing}
 use Rattle.sheet.specs.Sheet.Steps.{at-short, at-bad, at-unfit, at-fit}
-use Rattle.sheet.specs.Text.{Value, bad, has, ended, valueOf, lineOf, afterEquals, Behind, Opened, Told}
+use Rattle.sheet.specs.Text.{Value, bad, has, ended, valueOf, keyed, lineOf, afterEquals, Behind, Opened, Told}
 use Rattle.sheet.specs.Text.Keys.{after-long}
+use Rattle.sheet.specs.Text.Keyed.{opening, keyed-endless, keyed-whole, keyed-other, keyed-value}
 use Rattle.sheet.specs.declared.text.Line.{Line}
 use Rattle.sheet.specs.declared.text.Opening.{Opening}
-use Rattle.sheet.specs.Text.Values.{Endless, text-whole, text-endless}
-
--- ---- the key and the equals sign
-
--- the bytes in front of a value
-abbrev pub opening : Due → List ℕ
-opening w = key w ++ (equals ∷ [])
-
-opening-text : (w : Due) → all isText (opening w) ≡ true
-unfolding all
-opening-text w = all-append isText (key w) (equals ∷ []) (key-text w) refl
-
--- more bytes behind change nothing of a key in front
-after-grows : (k bs v more : List ℕ) → after k bs ≡ some v → after k (bs ++ more) ≡ some (v ++ more)
-after-grows k bs v more e =
-    ap (λ (x : List ℕ). after k (x ++ more)) (front-after k bs v e) ∙ ap (after k) (append-assoc k v more) ∙ after-front k (v ++ more)
+use Rattle.sheet.specs.Text.Values.{Endless}
 
 -- ---- a line by its cut
 
@@ -47,10 +32,6 @@ line-endless w bs p = ⊎-elim (λ (q : cutLine bs ≡ Cut.nothing). rw (q, line
 line-whole : (w : Due) (bs l rest : List ℕ) → cutLine bs ≡ Cut.whole l rest → lineOf w bs ≡ ended (dueLine w l) rest
 unfolding lineOf
 line-whole w bs l rest p = rw (p, lineOf) refl
-
-value-endless : (bs : List ℕ) → Endless (cutLine bs) → valueOf bs ≡ bad
-unfolding valueOf
-value-endless bs p = ⊎-elim (λ (q : cutLine bs ≡ Cut.nothing). rw (q, valueOf) refl) (λ (q : cutLine bs ≡ Cut.short). rw (q, valueOf) refl) p
 
 -- ---- a line by its key
 
@@ -64,44 +45,26 @@ line-extra w bs e = first (cutLine bs) refl
     first Cut.short p = line-endless w bs (inr p)
     first (Cut.whole l rest) p = line-whole w bs l rest p ∙ rw (e, dueLine) refl
 
--- the key is another
-pub line-other : (w : Due) (bs : List ℕ) → isEnd w ≡ false → after (opening w) bs ≡ none → lineOf w bs ≡ bad
-unfolding dueLine line ended
-line-other w bs e h = first (cutLine bs) refl
+-- a line that is due is one with its key
+line-keyed : (w : Due) (bs : List ℕ) → isEnd w ≡ false → lineOf w bs ≡ keyed (key w) bs
+unfolding dueLine
+line-keyed w bs e = first (cutLine bs) refl
   where
-    first : (c : Cut) → cutLine bs ≡ c → lineOf w bs ≡ bad
-    first Cut.nothing p = line-endless w bs (inl p)
-    first Cut.short p = line-endless w bs (inr p)
-    first (Cut.whole l rest) p = then (after (opening w) l) refl
-      where
-        then : (o : Option (List ℕ)) → after (opening w) l ≡ o → lineOf w bs ≡ bad
-        then none q = line-whole w bs l rest p ∙ rw (e, dueLine) (rw (q, line) refl)
-        then (some v) q =
-            let g = after-grows (opening w) l v (newline ∷ rest) q in
-            let f : _≡_ {A = Option (List ℕ)} none (some (v ++ (newline ∷ rest))) = sym h ∙ ap (after (opening w)) (cut-whole bs l rest p) ∙ g in
-            never cc
+    first : (c : Cut) → cutLine bs ≡ c → lineOf w bs ≡ keyed (key w) bs
+    first Cut.nothing p = line-endless w bs (inl p) ∙ sym (keyed-endless (key w) bs (inl p))
+    first Cut.short p = line-endless w bs (inr p) ∙ sym (keyed-endless (key w) bs (inr p))
+    first (Cut.whole l rest) p = line-whole w bs l rest p ∙ rw (e, dueLine) (sym (keyed-whole (key w) bs l rest p))
+
+-- the key is another
+line-other : (w : Due) (bs : List ℕ) → isEnd w ≡ false → after (opening (key w)) bs ≡ none → lineOf w bs ≡ bad
+line-other w bs e h = line-keyed w bs e ∙ keyed-other (key w) bs h
 
 -- the key is the one that is due: the value is the line's
-pub line-value : (w : Due) (bs v : List ℕ) → isEnd w ≡ false → after (opening w) bs ≡ some v → lineOf w bs ≡ valueOf v
-unfolding dueLine line valueOf
-line-value w bs v e h = first (cutLine v) refl
-  where
-    its : bs ≡ (key w ++ (equals ∷ [])) ++ v
-    its = front-after (opening w) bs v h
-
-    endless : Endless (cutLine v) → lineOf w bs ≡ valueOf v
-    endless p =
-        line-endless w bs (subst (λ x. Endless (cutLine x)) (sym its) (text-endless (opening w) v (opening-text w) p)) ∙ sym (value-endless v p)
-
-    first : (c : Cut) → cutLine v ≡ c → lineOf w bs ≡ valueOf v
-    first Cut.nothing p = endless (inl p)
-    first Cut.short p = endless (inr p)
-    first (Cut.whole l rest) p =
-        line-whole w bs (opening w ++ l) rest (ap cutLine its ∙ text-whole (opening w) v l rest (opening-text w) p) ∙
-        rw (e, dueLine) (rw (after-front (opening w) l, line) (rw (p, valueOf) refl))
+line-value : (w : Due) (bs v : List ℕ) → isEnd w ≡ false → after (opening (key w)) bs ≡ some v → lineOf w bs ≡ valueOf v
+line-value w bs v e h = line-keyed w bs e ∙ keyed-value (key w) bs v (key-text w) h
 
 -- what is behind the key and the equals sign of the line that is due is its value
-pub due-opened : (w : Due) (s : List ℕ) (at : ℕ) (r : Opening) → isEnd w ≡ false → Behind (opening w) s at r → Opened w s at r
+pub due-opened : (w : Due) (s : List ℕ) (at : ℕ) (r : Opening) → isEnd w ≡ false → Behind (opening (key w)) s at r → Opened w s at r
 due-opened w s at (Opening.At p) e (a, b, h) = (a, b, line-value w (drop at s) (drop p s) e h)
 due-opened w s at Opening.No e h = line-other w (drop at s) e h
 
@@ -146,12 +109,12 @@ value-behind w bs xs rest e = due (isEnd w) refl
   where
     due : (b : Bool) → isEnd w ≡ b → valueOf (afterEquals bs) ≡ has xs rest
     due true p = let h : bad ≡ has xs rest = sym (line-extra w bs p) ∙ e in never cc
-    due false p = first (after (opening w) bs) refl
+    due false p = first (after (opening (key w)) bs) refl
       where
-        first : (o : Option (List ℕ)) → after (opening w) bs ≡ o → valueOf (afterEquals bs) ≡ has xs rest
+        first : (o : Option (List ℕ)) → after (opening (key w)) bs ≡ o → valueOf (afterEquals bs) ≡ has xs rest
         first none q = let h : bad ≡ has xs rest = sym (line-other w bs p q) ∙ e in never cc
         first (some v) q =
-            let f : bs ≡ key w ++ (equals ∷ v) = front-after (opening w) bs v q ∙ append-assoc (key w) (equals ∷ []) v in
+            let f : bs ≡ key w ++ (equals ∷ v) = front-after (opening (key w)) bs v q ∙ append-assoc (key w) (equals ∷ []) v in
             ap valueOf (ap afterEquals f ∙ equals-front (key w) v (key-equals w)) ∙ sym (line-value w bs v p q) ∙ e
 
 -- ---- what a line makes of the reading of a sheet

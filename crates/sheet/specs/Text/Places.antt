@@ -5,7 +5,7 @@ use native.Mathlib.Numerals.{add-one}
 use mathlib.Core.Path.{_≡_, refl, sym, ap, _∙_}
 use mathlib.Core.List.{List, [], _∷_, _++_, append-assoc}
 use lib.ListN.{length, take, drop, getD, set, drop-of-length-le}
-use lib.Seq.{take-suc, append-snoc, set-at, length-take-le, paste, paste-suc}
+use lib.Seq.{take-suc, append-snoc, set-at, length-take-le, paste}
 use borrow.Author.Tests.{eq-eqb, ne-eqb}
 use Rattle.sheet.specs.Sheet.{equals}
 use Rattle.sheet.specs.Text.{afterEquals}
@@ -31,21 +31,16 @@ module _ (s : List ℕ) (i : ℕ) where
 
 -- ---- a line written at a place
 
-module _ (d : List ℕ) (w : ℕ) (line : List ℕ) where
-  -- one number more
-  pub put-more : (j : ℕ) → w + 1 + j < length d → j < length line → set (paste d (w + 1) line j) (w + 1 + j) (getD line j 0) ≡ paste d (w + 1) line (j + 1)
-  put-more j h l = paste-suc d (w + 1) line j 0 h l ∙ ap (paste d (w + 1) line) (sym (add-one j))
-
-  -- the count before all numbers
-  pub put-count : w + length line < length d →
-      set (paste d (w + 1) line (length line)) w (length line) ≡ paste d w (length line ∷ line) (suc (length line))
-  put-count h =
-      let n : ℕ = length line in
-      let r : List ℕ = drop (w + 1 + n) d in
-      let a : take (w + 1) d ≡ take w d ++ (getD d w 0 ∷ []) = ap (λ (k : ℕ). take k d) (add-one w) ∙ take-suc d w 0 (omega arith) in
-      let b : w + 1 + n ≡ w + suc n = omega arith in
-      ap (λ (x : List ℕ). set ((x ++ take n line) ++ r) w n) a ∙
-      ap (λ (x : List ℕ). set (x ++ r) w n) (append-snoc (take w d) (getD d w 0) (take n line)) ∙
-      ap (λ (x : List ℕ). set x w n) (append-assoc (take w d) (getD d w 0 ∷ take n line) r) ∙
-      set-at (take w d) (getD d w 0) (take n line ++ r) n w (length-take-le w d (omega arith)) ∙
-      sym (append-assoc (take w d) (n ∷ take n line) r) ∙ ap (λ (k : ℕ). (take w d ++ (n ∷ take n line)) ++ drop k d) b
+-- the count before all numbers
+pub put-count : (d : List ℕ) (w : ℕ) (line : List ℕ) → w + length line < length d →
+    set (paste d (w + 1) line (length line)) w (length line) ≡ paste d w (length line ∷ line) (suc (length line))
+put-count d w line h =
+    let n : ℕ = length line in
+    let r : List ℕ = drop (w + 1 + n) d in
+    let a : take (w + 1) d ≡ take w d ++ (getD d w 0 ∷ []) = ap (λ (k : ℕ). take k d) (add-one w) ∙ take-suc d w 0 (omega arith) in
+    let b : w + 1 + n ≡ w + suc n = omega arith in
+    ap (λ (x : List ℕ). set ((x ++ take n line) ++ r) w n) a ∙
+    ap (λ (x : List ℕ). set (x ++ r) w n) (append-snoc (take w d) (getD d w 0) (take n line)) ∙
+    ap (λ (x : List ℕ). set x w n) (append-assoc (take w d) (getD d w 0 ∷ take n line) r) ∙
+    set-at (take w d) (getD d w 0) (take n line ++ r) n w (length-take-le w d (omega arith)) ∙
+    sym (append-assoc (take w d) (n ∷ take n line) r) ∙ ap (λ (k : ℕ). (take w d ++ (n ∷ take n line)) ++ drop k d) b

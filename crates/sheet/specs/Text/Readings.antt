@@ -48,22 +48,22 @@ number-within s i v e h p =
 
 -- ---- the loop
 
--- the numbers read so far, from a place on, put before those that are left
-pub record Reading (s : List ℕ) (at : ℕ) (room : List ℕ) (i n : ℕ) : Type 0 where
+-- the numbers read so far, from a place on, of which something holds, put before those that are left
+pub record Reading (P : List ℕ → Type 0) (s : List ℕ) (at i : ℕ) : Type 0 where
   pub begun : at ≤ i
   pub inside : i ≤ length s
   pub acc : List ℕ
-  pub holds : Holds n room acc
+  pub holds : P acc
   pub left : prefixed acc (wordsOf (drop i s)) ≡ valueOf (drop at s)
 
 -- at the start: no LF stands there
-pub reading-start : (s : List ℕ) (at : ℕ) (room : List ℕ) → length room ≡ maxLine → at < length s → (getD s at 0 ≡ newline → ⊥) → Reading s at room at 0
+pub reading-start : (P : List ℕ → Type 0) (s : List ℕ) (at : ℕ) → P [] → at < length s → (getD s at 0 ≡ newline → ⊥) → Reading P s at at
 unfolding prefixed
-reading-start s at room l h n = record {
+reading-start P s at p h n = record {
   begun = omega arith;
   inside = omega arith;
   acc = [];
-  holds = kept (omega arith) l refl;
+  holds = p;
   left = same (wordsOf (drop at s)) ∙ ap wordsOf (rest-at s at h) ∙ sym (value-words (getD s at 0) (drop (at + 1) s) n) ∙ ap valueOf (sym (rest-at s at h));
 }
   where
@@ -72,15 +72,8 @@ reading-start s at room l h n = record {
     same (has ns rest) = refl
 
 -- the value ends at once
-pub reading-empty : (s : List ℕ) (at : ℕ) (room : List ℕ) → length room ≡ maxLine → at < length s → getD s at 0 ≡ newline →
-    Told (valueOf (drop at s)) s at (Line.Whole 0 (at + 1)) room
-reading-empty s at room l h e = (
-  omega arith,
-  omega arith,
-  omega arith,
-  l,
-  ap valueOf (rest-at s at h ∙ ap (λ (x : ℕ). x ∷ drop (at + 1) s) e) ∙ value-empty (drop (at + 1) s),
-)
+pub reading-empty : (s : List ℕ) (at : ℕ) → at < length s → getD s at 0 ≡ newline → valueOf (drop at s) ≡ has [] (drop (at + 1) s)
+reading-empty s at h e = ap valueOf (rest-at s at h ∙ ap (λ (x : ℕ). x ∷ drop (at + 1) s) e) ∙ value-empty (drop (at + 1) s)
 
 -- there is no byte
 pub reading-nothing : (s : List ℕ) (at : ℕ) → length s ≤ at → valueOf (drop at s) ≡ bad
@@ -92,15 +85,7 @@ unfolding prefixed
 twice acc v bad = refl
 twice acc v (has ns rest) = ap (λ (x : List ℕ). has x rest) (append-assoc acc (v ∷ []) ns)
 
--- what is told of numbers that the room holds
-told-held : (v : Value) (s : List ℕ) (at m e : ℕ) (room acc : List ℕ) → Holds m room acc → at < e → e ≤ length s → v ≡ has acc (drop e s) →
-    Told v s at (countedTo m e) room
-unfolding countedTo
-told-held v s at m e room acc (kept a l q) h i p =
-    rw (le-leb m maxLine a, countedTo) (a, h, i, l, p ∙ ap (λ (x : List ℕ). has x (drop e s)) q)
-told-held v s at m e room acc (lost a b) h i p = rw (lt-leb m maxLine (omega arith), countedTo) (acc, drop e s, p, b)
-
-module _ (s : List ℕ) (at : ℕ) (room : List ℕ) (i n : ℕ) (r : Reading s at room i n) where
+module _ {P : List ℕ → Type 0} (s : List ℕ) (at i : ℕ) (r : Reading P s at i) where
   -- what is left is not in its form
   spoilt : wordsOf (drop i s) ≡ bad → valueOf (drop at s) ≡ bad
   unfolding prefixed
@@ -124,22 +109,23 @@ module _ (s : List ℕ) (at : ℕ) (room : List ℕ) (i n : ℕ) (r : Reading s 
     says : numeral (digitsOf (drop i s)) ≡ some v
     says = number-says s i v e (sym p) .0
 
+    -- the number ends after the place where the value begins
+    passed : at ≤ e
+    passed = let a = r .begun in let b = number-within s i v e (r .inside) (sym p) .0 in omega arith
+
     -- nothing comes after a number
     pub reading-end : length s ≤ e → valueOf (drop at s) ≡ bad
     reading-end h = spoilt (number-end (drop i s) (rest-is ∙ drop-of-length-le s h))
 
-    -- neither an LF nor a space comes after a number
-    pub reading-other : e < length s → (getD s e 0 ≡ newline → ⊥) → (getD s e 0 ≡ space → ⊥) → valueOf (drop at s) ≡ bad
-    reading-other h a b = spoilt (number-other (drop i s) (getD s e 0) (drop (e + 1) s) (next-is h) a b)
-
-    module _ (h : e < length s) (m : ℕ) (after : List ℕ) (k : Holds m after (r .acc ++ (v ∷ []))) where
-      bounds : (i ≤ e) × (e ≤ length s)
-      bounds = number-within s i v e (r .inside) (sym p)
+    module _ (h : e < length s) where
+      -- neither an LF nor a space comes after a number
+      pub reading-other : (getD s e 0 ≡ newline → ⊥) → (getD s e 0 ≡ space → ⊥) → valueOf (drop at s) ≡ bad
+      reading-other a b = spoilt (number-other (drop i s) (getD s e 0) (drop (e + 1) s) (next-is h) a b)
 
       -- a space comes after a number
-      pub reading-more : getD s e 0 ≡ space → Reading s at after (e + 1) m
-      reading-more q = record {
-        begun = let a = r .begun in let b = bounds .0 in omega arith;
+      pub reading-more : (Q : List ℕ → Type 0) → Q (r .acc ++ (v ∷ [])) → getD s e 0 ≡ space → Reading Q s at (e + 1)
+      reading-more Q k q = record {
+        begun = let a = passed in omega arith;
         inside = omega arith;
         acc = r .acc ++ (v ∷ []);
         holds = k;
@@ -149,8 +135,24 @@ module _ (s : List ℕ) (at : ℕ) (room : List ℕ) (i n : ℕ) (r : Reading s 
       }
 
       -- the LF comes after a number
-      pub reading-lf : getD s e 0 ≡ newline → Told (valueOf (drop at s)) s at (countedTo m (e + 1)) after
+      pub reading-lf : getD s e 0 ≡ newline → valueOf (drop at s) ≡ has (r .acc ++ (v ∷ [])) (drop (e + 1) s)
       unfolding prefixed
       reading-lf q =
-          told-held (valueOf (drop at s)) s at m (e + 1) after (r .acc ++ (v ∷ [])) k (let a = r .begun in let b = bounds .0 in omega arith) (omega arith)
-          (sym (r .left) ∙ ap (prefixed (r .acc)) (number-lf (drop i s) (drop (e + 1) s) v says (next-is h ∙ ap (λ (x : ℕ). x ∷ drop (e + 1) s) q)))
+          sym (r .left) ∙ ap (prefixed (r .acc)) (number-lf (drop i s) (drop (e + 1) s) v says (next-is h ∙ ap (λ (x : ℕ). x ∷ drop (e + 1) s) q))
+
+-- ---- what is told of a line whose numbers a room holds
+
+-- a line without numbers
+pub told-empty : (s : List ℕ) (at : ℕ) (room : List ℕ) → length room ≡ maxLine → at < length s → getD s at 0 ≡ newline →
+    Told (valueOf (drop at s)) s at (Line.Whole 0 (at + 1)) room
+told-empty s at room l h e = (omega arith, omega arith, omega arith, l, reading-empty s at h e)
+
+-- the LF comes after a number
+pub told-lf : (s : List ℕ) (at i : ℕ) {P : List ℕ → Type 0} (r : Reading P s at i) (v e : ℕ) → Numeral.Value v e ≡ numberAt s i → e < length s →
+    (m : ℕ) (room : List ℕ) → Holds m room (r .acc ++ (v ∷ [])) → getD s e 0 ≡ newline → Told (valueOf (drop at s)) s at (countedTo m (e + 1)) room
+unfolding countedTo
+told-lf s at i r v e p h m room (kept a l k) q =
+    rw (le-leb m maxLine a, countedTo)
+    (a, let b = passed s at i r v e p in omega arith, omega arith, l, reading-lf s at i r v e p h q ∙ ap (λ (x : List ℕ). has x (drop (e + 1) s)) k)
+told-lf s at i r v e p h m room (lost a b) q =
+    rw (lt-leb m maxLine (omega arith), countedTo) (r .acc ++ (v ∷ []), drop (e + 1) s, reading-lf s at i r v e p h q, b)

@@ -1,4 +1,4 @@
--- `put_value`: the loop's invariant is `Putting`: the numbers so far stand behind their place, and the others are still to be read.
+-- `put_value`: the loop's invariant is `Putting`: the numbers so far stand from their place on, and the others are still to be read.
 use Rattle.sheet.specs.Fill.Putting.{Putting, putting-start, putting-room, putting-small, putting-length, putting-some, putting-digit, putting-next, putting-lf}
 use Rattle.sheet.specs.Text.{maxWord}
 use lib.ListN.{length, length-set}
@@ -17,13 +17,12 @@ abbrev μ-loop : tie.MeasureT-loop
 
 -- what is known of the number, its place and the slice at the loop's head
 bounds : (c : tie.At-loop Inv-loop μ-loop) →
-    (c .loop .v ≤ maxWord) × (c .loop .n < maxWord) × (c .before .before .before .args .w + 1 + c .loop .n < length (c .loop .out)) × (length (c .loop .out) ≡ length (c .before .before .before .args .out .now))
+    (c .loop .v ≤ maxWord) × (c .before .before .before .args .w + c .loop .n < length (c .loop .out)) × (length (c .loop .out) ≡ length (c .before .before .before .args .out .now))
 bounds c =
     let r = putting-room (c .before .before .before .args .s .now) (c .before .before .before .args .at) (c .before .before .before .args .w) (c .before .before .before .args .out .now) (c .loop .out) (c .loop .i) (c .loop .n) (c .loop .v) (c .loop .inv) in
     let l = putting-length (c .before .before .before .args .s .now) (c .before .before .before .args .at) (c .before .before .before .args .w) (c .before .before .before .args .out .now) (c .loop .out) (c .loop .i) (c .loop .n) (c .loop .v) (c .loop .inv) in
     let g = c .loop .inv .given .fits in
-    let f = c .loop .inv .given .few in
-    (putting-small (c .before .before .before .args .s .now) (c .before .before .before .args .at) (c .before .before .before .args .w) (c .before .before .before .args .out .now) (c .loop .out) (c .loop .i) (c .loop .n) (c .loop .v) (c .loop .inv), omega arith, omega arith, l)
+    (putting-small (c .before .before .before .args .s .now) (c .before .before .before .args .at) (c .before .before .before .args .w) (c .before .before .before .args .out .now) (c .loop .out) (c .loop .i) (c .loop .n) (c .loop .v) (c .loop .inv), omega arith, l)
 
 loop-holds : tie.Need-loop-holds Inv-loop μ-loop
 loop-holds c = putting-start (c .before .before .args .s .now) (c .before .before .args .at) (c .before .before .args .w) (c .before .before .args .out .now) (c .before .before .pre)
@@ -55,29 +54,17 @@ cast-out c = omega (arith, bounds (c .before .before .before))
 add-out : tie.Need-add-out Inv-loop μ-loop
 add-out c = let b = bounds (c .before .before .before) in omega (arith, c .before .before .before .before .before .before .good)
 
-add-out-2 : tie.Need-add-out-2 Inv-loop μ-loop
-add-out-2 c = let b = bounds (c .before .before .before) in omega (arith, c .before .before .before .before .before .before .good)
-
 mul-out : tie.Need-mul-out Inv-loop μ-loop
 mul-out c = let b = bounds (c .before .before .before) in omega (arith, c .before .before .before .before .before .before .good)
 
 slice-write-out : tie.Need-slice-write-out Inv-loop μ-loop
-slice-write-out c = bounds (c .before .before .before) .2
+slice-write-out c = bounds (c .before .before .before) .1
 
 add-n : tie.Need-add-n Inv-loop μ-loop
-add-n c = omega (arith, bounds (c .before .before .before))
-
-cast-out-2 : tie.Need-cast-out-2 Inv-loop μ-loop
-cast-out-2 c = omega (arith, bounds (c .before .before .before .before))
-
-mul-out-2 : tie.Need-mul-out-2 Inv-loop μ-loop
-mul-out-2 c = let b = bounds (c .before .before .before .before) in omega (arith, c .before .before .before .before .before .before .before .good)
-
-slice-write-out-2 : tie.Need-slice-write-out-2 Inv-loop μ-loop
-slice-write-out-2 c = omega (arith, bounds (c .before .before .before .before), length-set (c .before .before .before .before .loop .out) (c .before .before .before .before .before .before .before .args .w + 1 + c .before .before .before .before .loop .n) (c .before .before .before .before .loop .v))
+add-n c = let b = bounds (c .before .before .before) in omega (arith, c .before .before .before .before .before .before .good)
 
 same-length : tie.Need-same-length Inv-loop μ-loop
-same-length c = simp length-set (bounds (c .before .before .before .before) .3)
+same-length c = simp length-set (bounds (c .before .before .before .before) .2)
 
 returns : tie.Need-returns Inv-loop μ-loop
 returns c = putting-lf (c .before .before .before .before .before .before .before .args .s .now) (c .before .before .before .before .before .before .before .args .at) (c .before .before .before .before .before .before .before .args .w) (c .before .before .before .before .before .before .before .args .out .now) (c .before .before .before .before .loop .out) (c .before .before .before .before .loop .i) (c .before .before .before .before .loop .n) (c .before .before .before .before .loop .v) (c .before .before .before .before .loop .inv) (c .before .before .before .loop-test .taken) (c .if2 .taken)
@@ -89,7 +76,7 @@ loop-again-2 : tie.Need-loop-again-2 Inv-loop μ-loop
 loop-again-2 c = putting-next (c .before .before .before .before .before .before .before .args .s .now) (c .before .before .before .before .before .before .before .args .at) (c .before .before .before .before .before .before .before .args .w) (c .before .before .before .before .before .before .before .args .out .now) (c .before .before .before .before .loop .out) (c .before .before .before .before .loop .i) (c .before .before .before .before .loop .n) (c .before .before .before .before .loop .v) (c .before .before .before .before .loop .inv) (c .before .before .before .loop-test .taken) (c .before .if1 .left) (c .if2 .left)
 
 same-length-2 : tie.Need-same-length-2 Inv-loop μ-loop
-same-length-2 c = bounds (c .before) .3
+same-length-2 c = bounds (c .before) .2
 
 returns-2 : tie.Need-returns-2 Inv-loop μ-loop
 returns-2 c = absurd (putting-some (c .before .before .before .before .args .s .now) (c .before .before .before .before .args .at) (c .before .before .before .before .args .w) (c .before .before .before .before .args .out .now) (c .before .loop .out) (c .before .loop .i) (c .before .loop .n) (c .before .loop .v) (c .before .loop .inv) (c .loop-test .left))
@@ -110,13 +97,9 @@ put-value-spec =
     loop-again
     cast-out
     add-out
-    add-out-2
     mul-out
     slice-write-out
     add-n
-    cast-out-2
-    mul-out-2
-    slice-write-out-2
     same-length
     returns
     loop-less-2

@@ -1,8 +1,8 @@
 -- `numbers`: the loop's invariant is `Reading`: the numbers read, put before those that are left, are the value's.
-use Rattle.sheet.specs.Text.Readings.{Reading, number-within, reading-start, reading-empty, reading-nothing, reading-over, reading-bad, reading-end, reading-other, reading-more, reading-lf}
-use Rattle.sheet.specs.Text.{valueOf, Told}
+use Rattle.sheet.specs.Text.Readings.{Reading, number-within, reading-start, reading-nothing, reading-over, reading-bad, reading-end, reading-other, reading-more, told-empty, told-lf}
+use Rattle.sheet.specs.Text.{valueOf, Told, Holds, kept}
 use lib.ListN.{length, drop}
-use mathlib.Core.Path.{sym, _∙_, subst}
+use mathlib.Core.Path.{refl, sym, _∙_, subst}
 use Prim.Native.Nat.{_-_}
 use native.Mathlib.Omega.{arith}
 use borrow.Author.Needs.{needs}
@@ -10,7 +10,7 @@ use Rattle.sheet.proofs.text.numbers.Statement.{statement}
 use Rattle.sheet.proofs.text.numbers.Tie as tie
 
 abbrev Inv-loop : tie.InvT-loop
-Inv-loop s at nums₀ i₀ n₀ nums i n = Reading s at nums i n
+Inv-loop s at nums₀ i₀ n₀ nums i n = Reading (Holds n nums) s at i
 
 abbrev μ-loop : tie.MeasureT-loop
 μ-loop s at nums₀ i₀ n₀ nums i n = length s - i
@@ -25,10 +25,10 @@ add-t14 : tie.Need-add-t14 Inv-loop μ-loop
 add-t14 c = search needs
 
 returns-2 : tie.Need-returns-2 Inv-loop μ-loop
-returns-2 c = reading-empty (c .before .before .before .before .args .s .now) (c .before .before .before .before .args .at) (c .before .before .before .before .args .nums .now) (c .before .before .before .before .pre .1) (c .before .before .if1 .left) (c .if2 .taken)
+returns-2 c = told-empty (c .before .before .before .before .args .s .now) (c .before .before .before .before .args .at) (c .before .before .before .before .args .nums .now) (c .before .before .before .before .pre .1) (c .before .before .if1 .left) (c .if2 .taken)
 
 loop-holds : tie.Need-loop-holds Inv-loop μ-loop
-loop-holds c = reading-start (c .before .before .before .before .args .s .now) (c .before .before .before .before .args .at) (c .before .before .before .before .args .nums .now) (c .before .before .before .before .pre .1) (c .before .before .if1 .left) (c .if2 .left)
+loop-holds c = reading-start (Holds 0 (c .before .before .before .before .args .nums .now)) (c .before .before .before .before .args .s .now) (c .before .before .before .before .args .at) (kept (omega arith) (c .before .before .before .before .pre .1) refl) (c .before .before .if1 .left) (c .if2 .left)
 
 number-requires : tie.Need-number-requires Inv-loop μ-loop
 number-requires c κs = search needs
@@ -37,13 +37,13 @@ enum-told : tie.Need-enum-told Inv-loop μ-loop
 enum-told c = c .match .keys1
 
 returns-3 : tie.Need-returns-3 Inv-loop μ-loop
-returns-3 c = reading-bad (c .before .before .before .before .before .before .before .before .before .args .s .now) (c .before .before .before .before .before .before .before .before .before .args .at) (c .before .before .before .before .loop .nums) (c .before .before .before .before .loop .i) (c .before .before .before .before .loop .n) (c .before .before .before .before .loop .inv) (sym (c .enum-told .given .1) ∙ c .before .before .number .ensures)
+returns-3 c = reading-bad (c .before .before .before .before .before .before .before .before .before .args .s .now) (c .before .before .before .before .before .before .before .before .before .args .at) (c .before .before .before .before .loop .i) (c .before .before .before .before .loop .inv) (sym (c .enum-told .given .1) ∙ c .before .before .number .ensures)
 
 enum-known-got : tie.Need-enum-known-got Inv-loop μ-loop
 enum-known-got c = c .match .keys2
 
 returns-4 : tie.Need-returns-4 Inv-loop μ-loop
-returns-4 c = reading-end (c .before .before .before .before .before .before .before .before .before .before .before .args .s .now) (c .before .before .before .before .before .before .before .before .before .before .before .args .at) (c .before .before .before .before .before .before .loop .nums) (c .before .before .before .before .before .before .loop .i) (c .before .before .before .before .before .before .loop .n) (c .before .before .before .before .before .before .loop .inv) (c .before .before .got .given .0 .0) (c .before .before .got .given .0 .1 .0) (sym (c .before .before .got .given .1) ∙ c .before .before .before .before .number .ensures) (c .if3 .taken)
+returns-4 c = reading-end (c .before .before .before .before .before .before .before .before .before .before .before .args .s .now) (c .before .before .before .before .before .before .before .before .before .before .before .args .at) (c .before .before .before .before .before .before .loop .i) (c .before .before .before .before .before .before .loop .inv) (c .before .before .got .given .0 .0) (c .before .before .got .given .0 .1 .0) (sym (c .before .before .got .given .1) ∙ c .before .before .before .before .number .ensures) (c .if3 .taken)
 
 keep-requires : tie.Need-keep-requires Inv-loop μ-loop
 keep-requires c κs = search needs
@@ -58,10 +58,10 @@ counted-requires : tie.Need-counted-requires Inv-loop μ-loop
 counted-requires c κs = search needs
 
 returns-5 : tie.Need-returns-5 Inv-loop μ-loop
-returns-5 c = subst (λ r. Told (valueOf (drop (c .before .before .before .before .before .before .before .before .before .before .before .before .before .before .before .before .args .at) (c .before .before .before .before .before .before .before .before .before .before .before .before .before .before .before .before .args .s .now))) (c .before .before .before .before .before .before .before .before .before .before .before .before .before .before .before .before .args .s .now) (c .before .before .before .before .before .before .before .before .before .before .before .before .before .before .before .before .args .at) r (c .before .before .before .keep .last .0)) (sym (c .counted .ensures)) (reading-lf (c .before .before .before .before .before .before .before .before .before .before .before .before .before .before .before .before .args .s .now) (c .before .before .before .before .before .before .before .before .before .before .before .before .before .before .before .before .args .at) (c .before .before .before .before .before .before .before .before .before .before .before .loop .nums) (c .before .before .before .before .before .before .before .before .before .before .before .loop .i) (c .before .before .before .before .before .before .before .before .before .before .before .loop .n) (c .before .before .before .before .before .before .before .before .before .before .before .loop .inv) (c .before .before .before .before .before .before .before .got .given .0 .0) (c .before .before .before .before .before .before .before .got .given .0 .1 .0) (sym (c .before .before .before .before .before .before .before .got .given .1) ∙ c .before .before .before .before .before .before .before .before .before .number .ensures) (c .before .before .before .before .before .if3 .left) (c .before .before .before .keep .result) (c .before .before .before .keep .last .0) (c .before .before .before .keep .ensures (c .before .before .before .before .before .before .before .before .before .before .before .loop .inv .acc) (c .before .before .before .before .before .before .before .before .before .before .before .loop .inv .holds)) (c .before .if4 .taken))
+returns-5 c = subst (λ r. Told (valueOf (drop (c .before .before .before .before .before .before .before .before .before .before .before .before .before .before .before .before .args .at) (c .before .before .before .before .before .before .before .before .before .before .before .before .before .before .before .before .args .s .now))) (c .before .before .before .before .before .before .before .before .before .before .before .before .before .before .before .before .args .s .now) (c .before .before .before .before .before .before .before .before .before .before .before .before .before .before .before .before .args .at) r (c .before .before .before .keep .last .0)) (sym (c .counted .ensures)) (told-lf (c .before .before .before .before .before .before .before .before .before .before .before .before .before .before .before .before .args .s .now) (c .before .before .before .before .before .before .before .before .before .before .before .before .before .before .before .before .args .at) (c .before .before .before .before .before .before .before .before .before .before .before .loop .i) (c .before .before .before .before .before .before .before .before .before .before .before .loop .inv) (c .before .before .before .before .before .before .before .got .given .0 .0) (c .before .before .before .before .before .before .before .got .given .0 .1 .0) (sym (c .before .before .before .before .before .before .before .got .given .1) ∙ c .before .before .before .before .before .before .before .before .before .number .ensures) (c .before .before .before .before .before .if3 .left) (c .before .before .before .keep .result) (c .before .before .before .keep .last .0) (c .before .before .before .keep .ensures (c .before .before .before .before .before .before .before .before .before .before .before .loop .inv .acc) (c .before .before .before .before .before .before .before .before .before .before .before .loop .inv .holds)) (c .before .if4 .taken))
 
 returns-6 : tie.Need-returns-6 Inv-loop μ-loop
-returns-6 c = reading-other (c .before .before .before .before .before .before .before .before .before .before .before .before .before .before .before .before .args .s .now) (c .before .before .before .before .before .before .before .before .before .before .before .before .before .before .before .before .args .at) (c .before .before .before .before .before .before .before .before .before .before .before .loop .nums) (c .before .before .before .before .before .before .before .before .before .before .before .loop .i) (c .before .before .before .before .before .before .before .before .before .before .before .loop .n) (c .before .before .before .before .before .before .before .before .before .before .before .loop .inv) (c .before .before .before .before .before .before .before .got .given .0 .0) (c .before .before .before .before .before .before .before .got .given .0 .1 .0) (sym (c .before .before .before .before .before .before .before .got .given .1) ∙ c .before .before .before .before .before .before .before .before .before .number .ensures) (c .before .before .before .before .before .if3 .left) (c .before .if4 .left) (c .if5 .taken)
+returns-6 c = reading-other (c .before .before .before .before .before .before .before .before .before .before .before .before .before .before .before .before .args .s .now) (c .before .before .before .before .before .before .before .before .before .before .before .before .before .before .before .before .args .at) (c .before .before .before .before .before .before .before .before .before .before .before .loop .i) (c .before .before .before .before .before .before .before .before .before .before .before .loop .inv) (c .before .before .before .before .before .before .before .got .given .0 .0) (c .before .before .before .before .before .before .before .got .given .0 .1 .0) (sym (c .before .before .before .before .before .before .before .got .given .1) ∙ c .before .before .before .before .before .before .before .before .before .number .ensures) (c .before .before .before .before .before .if3 .left) (c .before .if4 .left) (c .if5 .taken)
 
 add-i : tie.Need-add-i Inv-loop μ-loop
 add-i c = omega (arith, c .before .before .before .before .before .if3 .left)
@@ -70,10 +70,10 @@ loop-less : tie.Need-loop-less Inv-loop μ-loop
 loop-less c = omega (arith, c .before .before .before .before .before .if3 .left, c .before .before .before .before .before .before .before .before .before .before .loop-test .taken, number-within (c .before .before .before .before .before .before .before .before .before .before .before .before .before .before .before .before .args .s .now) (c .before .before .before .before .before .before .before .before .before .before .before .loop .i) (c .before .before .before .before .before .before .before .got .given .0 .0) (c .before .before .before .before .before .before .before .got .given .0 .1 .0) (c .before .before .before .before .before .before .before .before .before .before .before .loop .inv .inside) (sym (c .before .before .before .before .before .before .before .before .before .number .ensures) ∙ c .before .before .before .before .before .before .before .got .given .1))
 
 loop-again : tie.Need-loop-again Inv-loop μ-loop
-loop-again c = reading-more (c .before .before .before .before .before .before .before .before .before .before .before .before .before .before .before .before .args .s .now) (c .before .before .before .before .before .before .before .before .before .before .before .before .before .before .before .before .args .at) (c .before .before .before .before .before .before .before .before .before .before .before .loop .nums) (c .before .before .before .before .before .before .before .before .before .before .before .loop .i) (c .before .before .before .before .before .before .before .before .before .before .before .loop .n) (c .before .before .before .before .before .before .before .before .before .before .before .loop .inv) (c .before .before .before .before .before .before .before .got .given .0 .0) (c .before .before .before .before .before .before .before .got .given .0 .1 .0) (sym (c .before .before .before .before .before .before .before .got .given .1) ∙ c .before .before .before .before .before .before .before .before .before .number .ensures) (c .before .before .before .before .before .if3 .left) (c .before .before .before .keep .result) (c .before .before .before .keep .last .0) (c .before .before .before .keep .ensures (c .before .before .before .before .before .before .before .before .before .before .before .loop .inv .acc) (c .before .before .before .before .before .before .before .before .before .before .before .loop .inv .holds)) (c .if5 .left)
+loop-again c = reading-more (c .before .before .before .before .before .before .before .before .before .before .before .before .before .before .before .before .args .s .now) (c .before .before .before .before .before .before .before .before .before .before .before .before .before .before .before .before .args .at) (c .before .before .before .before .before .before .before .before .before .before .before .loop .i) (c .before .before .before .before .before .before .before .before .before .before .before .loop .inv) (c .before .before .before .before .before .before .before .got .given .0 .0) (c .before .before .before .before .before .before .before .got .given .0 .1 .0) (sym (c .before .before .before .before .before .before .before .got .given .1) ∙ c .before .before .before .before .before .before .before .before .before .number .ensures) (c .before .before .before .before .before .if3 .left) (Holds (c .before .before .before .keep .result) (c .before .before .before .keep .last .0)) (c .before .before .before .keep .ensures (c .before .before .before .before .before .before .before .before .before .before .before .loop .inv .acc) (c .before .before .before .before .before .before .before .before .before .before .before .loop .inv .holds)) (c .if5 .left)
 
 returns-7 : tie.Need-returns-7 Inv-loop μ-loop
-returns-7 c = reading-over (c .before .before .before .before .before .before .args .s .now) (c .before .before .before .before .before .before .args .at) (c .before .loop .nums) (c .before .loop .i) (c .before .loop .n) (c .before .loop .inv) (c .loop-test .left)
+returns-7 c = reading-over (c .before .before .before .before .before .before .args .s .now) (c .before .before .before .before .before .before .args .at) (c .before .loop .i) (c .before .loop .inv) (c .loop-test .left)
 
 pub numbers-spec : {M : Type 1} → statement M
 numbers-spec =
