@@ -21,6 +21,7 @@ pub mod marked;
 pub mod mutate;
 pub mod numbers;
 pub mod options;
+pub mod pairs;
 pub mod paths;
 pub mod pieces;
 pub mod run;

@@ -5,6 +5,7 @@ use compare::feed::Program;
 use compare::grammars::{large, named};
 use compare::make::{make, Sort};
 use compare::options::Options;
+use compare::pairs::{pairs, Pair};
 use compare::run::Comparison;
 use compare::selfcheck::selfcheck;
 use compare::timing::times;
@@ -23,6 +24,7 @@ compare box [--fast] [SIZES]
 compare input --seed S --case K [--story ..] [SIZES]
 compare sheet GRAMMAR slr|lalr|canonical
 compare vectors table|large [--expected | --names]
+compare vectors forests [--expected]
 compare time
 SIZES: [--bytes N] [--numbers N] [--tokens N] [--room N], the small box's if not given
 ";
@@ -115,7 +117,7 @@ fn vectors(options: &Options) -> Result<bool, String> {
     let vectors = match options.word(0) {
         Some("table") => vectors::table(),
         Some("large") => vectors::large(),
-        _ => return Err("there are vectors called table and large".to_string()),
+        _ => return Err("there are vectors called table, large and forests".to_string()),
     };
     let text = match (options.has("expected"), options.has("names")) {
         (true, _) => vectors::expected(&vectors),
@@ -123,6 +125,14 @@ fn vectors(options: &Options) -> Result<bool, String> {
         _ => vectors::text(&vectors),
     };
     put(text.as_bytes());
+    Ok(true)
+}
+
+/// Prints pairs of forests, or the lines that are to be printed for them.
+fn forests(options: &Options) -> Result<bool, String> {
+    options.only(&["expected"])?;
+    let line = if options.has("expected") { Pair::expected } else { Pair::text };
+    put(pairs().iter().map(line).collect::<String>().as_bytes());
     Ok(true)
 }
 
@@ -139,6 +149,7 @@ fn command(words: &[String]) -> Result<bool, String> {
         "box" => act(&options),
         "input" => input(&options),
         "sheet" => sheet(&options),
+        "vectors" if options.word(0) == Some("forests") => forests(&options),
         "vectors" => vectors(&options),
         "time" => {
             options.only(&[])?;

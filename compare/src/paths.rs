@@ -8,6 +8,16 @@ use std::collections::BTreeSet;
 pub struct Paths(BTreeSet<Vec<usize>>);
 
 impl Paths {
+    /// The forest that some paths make, merged. A path without states is none.
+    pub fn of(paths: &[Vec<usize>]) -> Paths {
+        Paths::settled(paths.iter().filter(|path| !path.is_empty()).cloned().collect())
+    }
+
+    /// The paths in order.
+    pub fn list(&self) -> impl Iterator<Item = &[usize]> {
+        self.0.iter().map(Vec::as_slice)
+    }
+
     /// Drops every path of which another one is a proper front.
     fn settled(paths: BTreeSet<Vec<usize>>) -> Paths {
         let open = |path: &Vec<usize>| (1..path.len()).any(|k| paths.contains(&path[..k]));

@@ -1,4 +1,4 @@
--- What the parts' laws say of a held forest: its nodes, the shift phase, and a row's one-node trees added.
+-- What the parts' laws say of a held forest: its nodes, the shift phase, and trees set aside merged into it.
 use mathlib.Core.Path.{_≡_, _∙_, sym, ap, subst⁻¹}
 use mathlib.Core.List.{List}
 use Prim.Native.Nat.{ℕ, suc, _+_, _*_, _≤_, _<_}
@@ -10,11 +10,10 @@ use Rattle.theory.specs.Forest.{Forest, join, grow, shift, Rising, bare}
 use Rattle.forest.specs.Words.{stride, maxWords, at, poke, Inside, poke-len, at-same, at-other}
 use Rattle.forest.specs.Trees.{Tree, nil, erase, weigh, one, each, occ, size, Rep}
 use Rattle.forest.specs.Pools.{Pool, run, pooled}
-use Rattle.forest.specs.Rows.{meant}
-use Rattle.forest.specs.Joins.{Kept, Two, SomeTwo, Joined, Joins}
+use Rattle.forest.specs.Joins.{Kept, Two, SomeTwo, Joined}
 use Rattle.forest.specs.Grows.{Source, SomeSource, Grown, Grows}
-use Rattle.forest.specs.Longs.{leaves, Plenty, SomePlenty, Spread, Spreads}
-use Rattle.forest.specs.Held.{Held, Beyond, Becomes, CanShift, SomeShift, Shifts, SomeExtend, Extends}
+use Rattle.forest.specs.Longs.{Plenty, SomePlenty, Aside, Asides}
+use Rattle.forest.specs.Held.{Held, Beyond, Becomes, CanShift, SomeShift, Shifts, Settles, SomeExtend, Merges}
 use Rattle.forest.proofs.Frame.{not-none, still, pool-still, kept-rep}
 use Rattle.forest.proofs.Runs.{run-above, run-once, run-each}
 use Rattle.forest.proofs.Taking.{zero-in}
@@ -128,7 +127,7 @@ shift-shifts w row v G C m t y F H c =
     (G m t y (H .tree) nil (H .P) (c .goes) (shift-source w C F H row m t y c)) in
     record { held = B .held; beyond = beyond-then w (poke w 0 1 0) v C (beyond-poke w C 1 0 (omega arith)) (B .beyond) }
 
--- ---- the row's one-node trees
+-- ---- nodes for trees to be set aside
 
 module _ (w row : List ℕ) (C : ℕ) (F : Forest) (H : Held w C F) (c : Of.size F + length row ≤ C) where
   -- there are nodes for them
@@ -141,75 +140,78 @@ module _ (w row : List ℕ) (C : ℕ) (F : Forest) (H : Held w C F) (c : Of.size
     words = H .words;
   }
 
-  module _ (v : List ℕ) (S : Spread w v row 0 (length row) (H .P)) where
-    -- node 0 is none of the trees set aside, nor in the store
-    no-0 : occ 0 (S .tree) + pooled (one 0) (S .left) ≡ 0
-    no-0 = omega (arith, not-none v (S .tree) (at v 0 2) (S .rep), pool-no-zero v (S .left) (S .pool))
+-- ---- trees set aside, merged with the roots
 
-    -- the roots are where they were
-    roots-kept : at v 0 1 ≡ at w 0 1
-    roots-kept = S .kept 0 1 (omega arith) (pool-no-zero w (H .P) (H .pool)) (λ i j. omega arith) (λ i. (omega arith, omega arith))
+module _ (w : List ℕ) (C : ℕ) (F : Forest) (H : Held w C F) (G : Forest) (k : ℕ) (v : List ℕ) (S : Aside w v G k (H .P)) where
+  -- node 0 is none of the trees set aside, nor in the store
+  no-0 : occ 0 (S .tree) + pooled (one 0) (S .left) ≡ 0
+  no-0 = omega (arith, not-none v (S .tree) (at v 0 2) (S .rep), pool-no-zero v (S .left) (S .pool))
 
-    -- they stand beside the roots, apart
-    extend-two : Two v 0 1 (at v 0 1) (at v 0 2) (H .tree) (S .tree) (S .left)
-    extend-two =
-        let z = not-none w (H .tree) (at w 0 1) (H .rep) in
-        record {
-          first = subst⁻¹ (λ (x : ℕ). Rep v x (H .tree)) roots-kept
-              (kept-rep w v 0 2 (λ m. pooled m (H .P)) (S .len) (S .kept) (H .tree) (at w 0 1) (λ q. held-once w C F H q) z (H .rep));
-          second = S .rep;
-          pool = S .pool;
-          once = λ q. omega (arith, held-once w C F H q, S .weight (one q));
-          apart = omega (arith, no-0, z);
-          inside = omega (arith, S .len, held-in w C F H);
-          link = (omega arith, omega arith);
-          fits = omega (arith, held-total w C F H, H .fits, S .weight each, S .len);
-          words = omega (arith, H .words, S .len);
-        }
+  -- the roots are where they were
+  roots-kept : at v 0 1 ≡ at w 0 1
+  roots-kept = S .kept 0 1 (omega arith) (pool-no-zero w (H .P) (H .pool)) (λ i j. omega arith) (λ i. (omega arith, omega arith))
 
-    -- no node above C has changed
-    extend-beyond : (u : List ℕ) → Joined v u 0 1 (H .tree) (S .tree) (S .left) → Beyond w (poke u 0 2 0) C
-    extend-beyond u J =
-        let none : (q : ℕ) → C < q → occ q (H .tree) + pooled (one q) (H .P) ≡ 0
-        = λ q h. omega (arith, H .whole (one q), run-above q 1 C (omega arith)) in
-        beyond-then w v (poke u 0 2 0) C (beyond-kept w v C 2 (λ q. pooled (one q) (H .P)) (S .kept) (λ q h. omega (arith, none q h)))
-        (beyond-then v u (poke u 0 2 0) C (beyond-kept v u C 1 (λ q. occ q (H .tree) + occ q (S .tree) + pooled (one q) (S .left)) (J .kept)
-        (λ q h. omega (arith, none q h, S .weight (one q)))) (beyond-poke u C 2 0 (omega arith)))
+  -- they stand beside the roots, apart
+  aside-two : Two v 0 1 (at v 0 1) (at v 0 2) (H .tree) (S .tree) (S .left)
+  aside-two =
+      let z = not-none w (H .tree) (at w 0 1) (H .rep) in
+      record {
+        first = subst⁻¹ (λ (x : ℕ). Rep v x (H .tree)) roots-kept
+            (kept-rep w v 0 2 (λ m. pooled m (H .P)) (S .len) (S .kept) (H .tree) (at w 0 1) (λ q. held-once w C F H q) z (H .rep));
+        second = S .rep;
+        pool = S .pool;
+        once = λ q. omega (arith, held-once w C F H q, S .weight (one q));
+        apart = omega (arith, no-0, z);
+        inside = omega (arith, S .len, held-in w C F H);
+        link = (omega arith, omega arith);
+        fits = omega (arith, held-total w C F H, H .fits, S .weight each, S .len);
+        words = omega (arith, H .words, S .len);
+      }
 
-    -- the join of both is held
-    extend-held : (u : List ℕ) → Joined v u 0 1 (H .tree) (S .tree) (S .left) →
-        Becomes w (poke u 0 2 0) C (join F (leaves (meant row) 0 (length row)))
-    extend-held u J =
-        let e = poke-len u 0 2 0 in
-        let n = not-none u (J .tree) (at u 0 1) (J .rep) in
-        record {
-          held = record {
-            tree = J .tree;
-            P = J .left;
-            rep = subst⁻¹ (λ (x : ℕ). Rep (poke u 0 2 0) x (J .tree)) (at-other u 0 2 0 0 1 (omega arith) (omega arith) (λ i j. omega arith))
-                (still u 0 2 0 (J .tree) (at u 0 1) (omega arith) n (J .rep));
-            is = J .means ∙ (λ i. join (H .is i) (S .means i));
-            pool = pool-still u 0 2 0 (J .left) (omega arith) (omega arith) (pool-no-zero u (J .left) (J .pool)) (J .pool);
-            whole = λ k. omega (arith, H .whole k, S .weight k, J .weight k);
-            fits = omega (arith, H .fits, S .len, J .len, e);
-            aside = at-same u 0 2 0 (omega arith) (omega (arith, zero-in (J .pool)));
-            words = omega (arith, H .words, S .len, J .len, e);
-          };
-          beyond = extend-beyond u J;
-        }
+  -- no node above C has changed
+  aside-beyond : (u : List ℕ) → Joined v u 0 1 (H .tree) (S .tree) (S .left) → Beyond w (poke u 0 2 0) C
+  aside-beyond u J =
+      let none : (q : ℕ) → C < q → occ q (H .tree) + pooled (one q) (H .P) ≡ 0
+      = λ q h. omega (arith, H .whole (one q), run-above q 1 C (omega arith)) in
+      beyond-then w v (poke u 0 2 0) C (beyond-kept w v C 2 (λ q. pooled (one q) (H .P)) (S .kept) (λ q h. omega (arith, none q h)))
+      (beyond-then v u (poke u 0 2 0) C (beyond-kept v u C 1 (λ q. occ q (H .tree) + occ q (S .tree) + pooled (one q) (S .left)) (J .kept)
+      (λ q h. omega (arith, none q h, S .weight (one q)))) (beyond-poke u C 2 0 (omega arith)))
+
+  -- the join of both is held
+  aside-held : (u : List ℕ) → Joined v u 0 1 (H .tree) (S .tree) (S .left) →
+      Becomes w (poke u 0 2 0) C (join F G)
+  aside-held u J =
+      let e = poke-len u 0 2 0 in
+      let n = not-none u (J .tree) (at u 0 1) (J .rep) in
+      record {
+        held = record {
+          tree = J .tree;
+          P = J .left;
+          rep = subst⁻¹ (λ (x : ℕ). Rep (poke u 0 2 0) x (J .tree)) (at-other u 0 2 0 0 1 (omega arith) (omega arith) (λ i j. omega arith))
+              (still u 0 2 0 (J .tree) (at u 0 1) (omega arith) n (J .rep));
+          is = J .means ∙ (λ i. join (H .is i) (S .means i));
+          pool = pool-still u 0 2 0 (J .left) (omega arith) (omega arith) (pool-no-zero u (J .left) (J .pool)) (J .pool);
+          whole = λ k. omega (arith, H .whole k, S .weight k, J .weight k);
+          fits = omega (arith, H .fits, S .len, J .len, e);
+          aside = at-same u 0 2 0 (omega arith) (omega (arith, zero-in (J .pool)));
+          words = omega (arith, H .words, S .len, J .len, e);
+        };
+        beyond = aside-beyond u J;
+      }
 
 -- what the making of the trees asks
 pub extend-some : {w row : List ℕ} → SomeExtend w row → SomePlenty w row
 extend-some {w} {row} S = record { P = S .held .P; has = extend-plenty w row (S .C) (S .F) (S .held) (S .room) }
 
--- what the join asks after it
-pub extend-pair : {w row v : List ℕ} → SomeExtend w row → Spreads w row 0 (length row) v → SomeTwo v 0 1 (at v 0 1) (at v 0 2)
-extend-pair {w} {row} {v} S G =
-    let g = G (S .held .P) (extend-plenty w row (S .C) (S .F) (S .held) (S .room)) in
-    record { f = S .held .tree; g = g .tree; P = g .left; two = extend-two w row (S .C) (S .F) (S .held) (S .room) v g }
+-- what the merging asks after it
+pub extend-pair : {w row v : List ℕ} (G : Forest) (k : ℕ) → SomeExtend w row → Asides w row G k v → SomeTwo v 0 1 (at v 0 1) (at v 0 2)
+extend-pair {w} {row} {v} G k S A =
+    let g = A (S .held .P) (extend-plenty w row (S .C) (S .F) (S .held) (S .room)) in
+    record { f = S .held .tree; g = g .tree; P = g .left; two = aside-two w (S .C) (S .F) (S .held) G k v g }
 
 -- what it leaves
-pub extend-extends : (w row v u : List ℕ) → Spreads w row 0 (length row) v → Joins v 0 1 (at v 0 1) (at v 0 2) u → Extends w row (poke u 0 2 0)
-extend-extends w row v u G J C F H c =
-    let g = G (H .P) (extend-plenty w row C F H c) in
-    extend-held w row C F H c v g u (J (H .tree) (g .tree) (g .left) (extend-two w row C F H c v g))
+pub extend-merges : (w row v x : List ℕ) (G : Forest) (k : ℕ) → Asides w row G k v → Settles v x → Merges w row G x
+extend-merges w row v x G k A (u, J, e) C F H c =
+    let g = A (H .P) (extend-plenty w row C F H c) in
+    subst⁻¹ (λ (l : List ℕ). Becomes w l C (join F G)) e
+    (aside-held w C F H G k v g u (J (H .tree) (g .tree) (g .left) (aside-two w C F H G k v g)))

@@ -10,6 +10,8 @@ pub mod Growing
 pub mod Shortness
 pub mod Picking
 pub mod Spreading
+pub mod Planting
+pub mod Printing
 pub mod Runs
 pub mod Holding
 pub mod Reducing
@@ -18,6 +20,7 @@ pub mod Leaves
 pub mod Reading
 pub mod Lookups
 pub mod Starting
+pub mod Grafting
 pub mod Stepping
 pub mod Phasing
 pub mod Tokens

@@ -22,7 +22,7 @@ use Rattle.forest.proofs.Sprouting.{pool-no-zero, root-len, root-kept, 
 use Rattle.forest.proofs.Growing.{erase-size}
 
 -- a join is not larger than its two forests
-size-join : (f g : Forest) → Of.size (join f g) ≤ Of.size f + Of.size g
+pub size-join : (f g : Forest) → Of.size (join f g) ≤ Of.size f + Of.size g
 size-join f g =
     omega (
       arith,

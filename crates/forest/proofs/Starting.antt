@@ -21,12 +21,12 @@ use Rattle.forest.proofs.Leaves.{leaves-long}
 use Rattle.forest.proofs.Lookups.{rowOf, row-length, go-row, row-end, row-small}
 
 -- no tree has no node
-size-nothing : Of.size nothing ≡ 0
+pub size-nothing : Of.size nothing ≡ 0
 unfolding Of.size
 size-nothing = omega arith
 
 -- to join to nothing changes nothing
-join-onto-nothing : (F : Forest) → join nothing F ≡ F
+pub join-onto-nothing : (F : Forest) → join nothing F ≡ F
 unfolding join
 join-onto-nothing F = refl
 

@@ -8,10 +8,11 @@ use Rattle.theory.specs.Table.{Table}
 use Rattle.theory.specs.Forest as Of
 use Rattle.theory.specs.Forest.{Forest, nothing, join, grow, shift, short, Rising}
 use Rattle.theory.specs.Forest.Sizes.{inner}
-use Rattle.forest.specs.Words.{stride, rootsWord, asideWord, at, maxWords}
+use Rattle.forest.specs.Words.{stride, rootsWord, asideWord, at, poke, maxWords}
 use Rattle.forest.specs.Trees.{Tree, erase, weigh, Rep}
 use Rattle.forest.specs.Pools.{Pool, run, pooled, Pooled}
 use Rattle.forest.specs.Rows.{meant, Row}
+use Rattle.forest.specs.Joins.{Joins}
 use Rattle.forest.specs.Longs.{leaves}
 
 -- The room holds F. Its nodes are 1 to C, and each of them is in the forest, freed or never used, and that once.
@@ -81,10 +82,17 @@ pub record SomeExtend (w row : List ℕ) : Type 0 where
   pub held : Held w C F
   pub room : Of.size F + length row ≤ C
 
--- whatever forest it held, it holds that with the row's one-node trees
+-- whatever forest it held, it holds that merged with G
+abbrev pub Merges : List ℕ → List ℕ → Forest → List ℕ → Type 0
+Merges w row G v = (C : ℕ) (F : Forest) → Held w C F → Of.size F + length row ≤ C → Becomes w v C (join F G)
+
+-- that with the row's one-node trees
 abbrev pub Extends : List ℕ → List ℕ → List ℕ → Type 0
-Extends w row v =
-    (C : ℕ) (F : Forest) → Held w C F → Of.size F + length row ≤ C → Becomes w v C (join F (leaves (meant row) 0 (length row)))
+Extends w row v = Merges w row (leaves (meant row) 0 (length row)) v
+
+-- the trees set aside were merged with the roots, and none is set aside
+abbrev pub Settles : List ℕ → List ℕ → Type 0
+Settles w v = (u : List ℕ) × Joins w 0 rootsWord (at w 0 rootsWord) (at w 0 asideWord) u × (v ≡ poke u 0 asideWord 0)
 
 -- ---- a reduction
 

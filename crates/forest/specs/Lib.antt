@@ -8,6 +8,8 @@ pub mod Takes
 pub mod Grows
 pub mod Picks
 pub mod Longs
+pub mod Plants
+pub mod Prints
 pub mod Held
 pub mod Starts
 pub mod Phases

@@ -34,12 +34,12 @@ pub record SomePlenty (w row : List ℕ) : Type 0 where
   pub P : Pool
   pub has : Plenty w row P
 
--- set aside are the trees of k entries from i on; the other nodes are in the store
-pub record Spread (w v row : List ℕ) (i k : ℕ) (P : Pool) : Type 0 where
+-- set aside is G, of at most k nodes; the other nodes are in the store
+pub record Aside (w v : List ℕ) (G : Forest) (k : ℕ) (P : Pool) : Type 0 where
   pub tree : Tree
   pub left : Pool
   pub rep : Rep v (at v 0 asideWord) tree
-  pub means : erase tree ≡ leaves (meant row) i k
+  pub means : erase tree ≡ G
   pub few : size tree ≤ k
   pub pool : Pooled v left
   pub weight : (m : ℕ → ℕ) → weigh m tree + pooled m left ≡ pooled m P
@@ -47,5 +47,13 @@ pub record Spread (w v row : List ℕ) (i k : ℕ) (P : Pool) : Type 0 where
   pub len : length v ≡ length w
 
 -- whatever store the words held
+abbrev pub Asides : List ℕ → List ℕ → Forest → ℕ → List ℕ → Type 0
+Asides w row G k v = (P : Pool) → Plenty w row P → Aside w v G k P
+
+-- set aside are the trees of k entries from i on
+abbrev pub Spread : List ℕ → List ℕ → List ℕ → ℕ → ℕ → Pool → Type 0
+Spread w v row i k P = Aside w v (leaves (meant row) i k) k P
+
+-- whatever store the words held
 abbrev pub Spreads : List ℕ → List ℕ → ℕ → ℕ → List ℕ → Type 0
-Spreads w row i k v = (P : Pool) → Plenty w row P → Spread w v row i k P
+Spreads w row i k v = Asides w row (leaves (meant row) i k) k v

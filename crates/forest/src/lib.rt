@@ -1,12 +1,14 @@
 // The forest of stacks in a lent room: the empty forest, the forest of a tail's first token, and the forest after each later one.
 // The room is the forest's whole state. A `Forest` tells what the judge asks of it. The rows are the look-ups of a table that passes,
 // built once: see `specs/Rows.antt`.
+mod paths;
 mod phase;
 mod steps;
 mod store;
 mod trees;
 mod words;
 
+pub use paths::joined;
 ghost use mathlib.Core.Path.{_≡_};
 ghost use mathlib.Core.Bool.{true};
 ghost use Rattle.forest.specs.Starts.{emptied, SomeStart, Starts};

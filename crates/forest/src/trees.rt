@@ -83,7 +83,7 @@ fn meet(room: &mut [u32], a: usize, b: usize)
 }
 
 // Node p becomes a root of state s above the list at x.
-fn lay(room: &mut [u32], p: usize, s: usize, x: usize)
+pub fn lay(room: &mut [u32], p: usize, s: usize, x: usize)
     requires { ⌜ Inside (now room) p × (length (now room) ≤ maxWords) × (s < 4294967296) × (x < 4294967296) ⌝ }
     ensures { λ _. ⌜ now (room .exit) ≡ rooted (now (room .entry)) p s x ⌝ }
 {
