@@ -36,7 +36,7 @@ refused-into ns tail room j r e h l = subst (λ (x : Judgement). JudgesInto ns t
     (record { judgement = h; kept = λ k. refl; zeroed = λ k. impossible (omega arith) })
 
 -- an answer of the check that is taken apart as no pass has a number
-no-pass : (c : Check) → OneOf (1 ∷ 2 ∷ 3 ∷ 4 ∷ 5 ∷ []) (tagOf the-type c) → numbers c .0 ≡ 0 → ⊥
+pub no-pass : (c : Check) → OneOf (1 ∷ 2 ∷ 3 ∷ 4 ∷ 5 ∷ []) (tagOf the-type c) → numbers c .0 ≡ 0 → ⊥
 unfolding numbers
 no-pass (Check.Passes m) h e =
     ⊎-elim (λ a. omega arith) (λ g. ⊎-elim (λ a. omega arith) (λ k. ⊎-elim (λ a. omega arith) (λ l. ⊎-elim (λ a. omega arith) (λ a. omega arith) l) k) g) h

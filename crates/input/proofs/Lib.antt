@@ -1,0 +1,4 @@
+pub mod Cutting
+pub mod Boxing
+pub mod Showing
+pub mod Theorems

@@ -1,0 +1,5 @@
+-- The specifications of the judging program.
+pub mod Box
+pub mod Marked
+pub mod Parts
+pub mod Shown
