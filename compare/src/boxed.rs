@@ -2,8 +2,9 @@
 use crate::answer::{Judgement, Refusal};
 use crate::check;
 use crate::fast;
-use crate::judge::judge;
+use crate::judge::{judge, Machine};
 use crate::sheet::{self, LF};
+use crate::traps::Mistaken;
 
 /// What a judging program can hold.
 #[derive(Clone, Copy, Debug)]
@@ -50,6 +51,18 @@ pub fn outcome(input: &[u8], sizes: Sizes) -> Judgement {
 /// The same with the parts made for speed.
 pub fn fast_outcome(input: &[u8], sizes: Sizes) -> Judgement {
     judged(input, sizes, &FAST).unwrap_or_else(Judgement::from)
+}
+
+/// The same with a mistake in the forest.
+pub fn mistaken_outcome(input: &[u8], sizes: Sizes, mistaken: Mistaken) -> Judgement {
+    let right = outcome(input, sizes);
+    if right.answer > 1 {
+        return right;
+    }
+    let (sheet, last) = input.split_at(last_line(input));
+    let read = sheet::read(sheet).expect("a sheet that was judged by");
+    let tail = tail_line(last, read.lines).expect("a tail that was judged");
+    mistaken(&Machine::of(&read.table), &tail)
 }
 
 /// Reads the sheet, then the tail line, then judges.

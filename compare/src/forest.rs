@@ -3,6 +3,8 @@ use std::collections::{BTreeMap, BTreeSet};
 
 /// A forest of stacks. Trees with equal root states are always merged.
 pub trait Forest: Sized {
+    /// Whether it may hold paths that no go lines make: only a forest that is wrong on purpose does.
+    const WRONG: bool = false;
     /// One-node trees.
     fn single(states: &BTreeSet<usize>) -> Self;
     /// The root states.

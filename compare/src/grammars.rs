@@ -85,6 +85,26 @@ pub fn named() -> Vec<(&'static str, Grammar)> {
     ]
 }
 
+/// The report of a host: 0 1 2 open the host, a chassis, a board, 3 4 5 close them, 6 says that a serial number follows, 7 is
+/// one, 8 is the factory placeholder. A host holds chassis and boards, a chassis holds boards; each has its own number at its
+/// end, and only a board's may be the placeholder.
+pub fn hosts() -> Grammar {
+    let host: [&[u16]; 5] = [&[10, 0, 11, 16, 7, 3], &[11, 11, 12], &[11, 12], &[12, 13], &[12, 15]];
+    let chassis: [&[u16]; 3] = [&[13, 1, 14, 16, 7, 4], &[14, 14, 15], &[14, 15]];
+    let board: [&[u16]; 4] = [&[15, 2, 16, 17, 5], &[16, 6], &[17, 7], &[17, 8]];
+    grammar(9, 8, &[&host[..], &chassis[..], &board[..]].concat())
+}
+
+/// A list of lists of one kind, with more than one reading: no table of it is free of conflicts.
+pub fn doubled() -> Grammar {
+    grammar(1, 1, &[&[2, 2, 2], &[2, 0]])
+}
+
+/// Further grammars by name, for the folder of examples.
+pub fn shown() -> Vec<(&'static str, Grammar)> {
+    vec![("hosts", hosts()), ("doubled", doubled())]
+}
+
 /// 63 kinds, 32 nonterminals, 64 rules; its tables have 128 states. Each nonterminal leads to the next one or ends.
 pub fn largest() -> Grammar {
     let (terms, last) = (63, 95);

@@ -67,7 +67,11 @@ impl<'a> Machine<'a> {
         while let Some((root, rule)) = self.lowest(forest, t) {
             let rule = &self.table.grammar.rules[rule];
             let (kept, short) = forest.take(root).below(rule.right.len());
-            forest.join(kept.raise(&|node| Some(self.go(node, rule.left).expect("a go line on the left side"))));
+            forest.join(kept.raise(&|node| {
+                let target = self.go(node, rule.left);
+                assert!(target.is_some() || F::WRONG, "a go line on the left side");
+                target
+            }));
             if short && made.insert(rule.left) {
                 forest.join(F::single(&self.long(rule.left)));
             }

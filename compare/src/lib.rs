@@ -26,6 +26,7 @@ pub mod paths;
 pub mod pieces;
 pub mod run;
 pub mod selfcheck;
+pub mod shared_past;
 pub mod sheet;
 pub mod table;
 pub mod tails;

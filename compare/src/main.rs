@@ -1,14 +1,15 @@
 //! The commands.
-use compare::boxed::{fast_outcome, outcome, Sizes, SMALL};
+use compare::boxed::{fast_outcome, mistaken_outcome, outcome, Sizes, SMALL};
 use compare::cases::{case, Story, STORIES};
 use compare::feed::Program;
-use compare::grammars::{large, named};
+use compare::grammars::{large, named, shown};
 use compare::make::{make, Sort};
 use compare::options::Options;
 use compare::pairs::{pairs, Pair};
 use compare::run::Comparison;
 use compare::selfcheck::selfcheck;
 use compare::timing::times;
+use compare::traps;
 use compare::vectors;
 use std::io::{Read, Write};
 use std::path::PathBuf;
@@ -20,7 +21,7 @@ const USAGE: &str = "\
 compare self [--cases N] [--seed S]
 compare run --program PATH [--cases N] [--seed S] [--story good|mutated|damaged|bytes|sharp] [--through COMMAND] [--words WORDS]
             [--keep FOLDER] [SIZES]
-compare box [--fast] [SIZES]
+compare box [--fast | --mistake keeps-lower|keeps-one|highest|exact|shared-past] [SIZES]
 compare input --seed S --case K [--story ..] [SIZES]
 compare sheet GRAMMAR slr|lalr|canonical
 compare vectors table|large [--expected | --names]
@@ -77,11 +78,17 @@ fn run(options: &Options) -> Result<bool, String> {
 
 /// Acts as the judging program.
 fn act(options: &Options) -> Result<bool, String> {
-    options.only(&["fast", "bytes", "numbers", "tokens", "room"])?;
+    options.only(&["fast", "mistake", "bytes", "numbers", "tokens", "room"])?;
     let sizes = sizes(options)?;
+    let mistaken = options.text("mistake").map(|name| traps::by_name(name).ok_or(format!("no mistake is called {name}")));
+    let mistaken = mistaken.transpose()?;
     let mut input = Vec::new();
     std::io::stdin().read_to_end(&mut input).map_err(|error| error.to_string())?;
-    let told = if options.has("fast") { fast_outcome(&input, sizes) } else { outcome(&input, sizes) };
+    let told = match mistaken {
+        Some(mistaken) => mistaken_outcome(&input, sizes, mistaken),
+        None if options.has("fast") => fast_outcome(&input, sizes),
+        None => outcome(&input, sizes),
+    };
     put(told.to_string().as_bytes());
     Ok(true)
 }
@@ -103,7 +110,7 @@ fn sheet(options: &Options) -> Result<bool, String> {
         Some("canonical") => Sort::Canonical,
         _ => return Err("slr, lalr or canonical is missing".to_string()),
     };
-    let named = [named(), large()].concat();
+    let named = [named(), shown(), large()].concat();
     let found = named.iter().find(|(known, _)| *known == name);
     let names: Vec<&str> = named.iter().map(|(known, _)| *known).collect();
     let (_, grammar) = found.ok_or_else(|| format!("the grammars are {}", names.join(", ")))?;

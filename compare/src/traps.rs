@@ -1,7 +1,9 @@
 //! Forests with mistakes: those that document 01 warns of, and one more. They are wrong on purpose. A tail on which one of them
 //! judges otherwise than the right forest shows more than other tails do.
+use crate::answer::Judgement;
 use crate::forest::{Forest, Trees};
 use crate::judge::Machine;
+use crate::shared_past::SharedPast;
 use std::collections::{BTreeMap, BTreeSet};
 
 /// Where one of two trees ends, the other's lower part is kept.
@@ -97,14 +99,32 @@ impl<const MISTAKE: u8> Forest for Wrong<MISTAKE> {
     }
 }
 
+/// Judges a tail of kinds with a mistake.
+pub type Mistaken = fn(&Machine, &[u16]) -> Judgement;
+
+/// The mistakes by name.
+const MISTAKES: [(&str, Mistaken); 4] = [
+    ("keeps a lower part", |machine, tail| machine.run::<Wrong<KEEPS_LOWER>>(tail, &mut |_| ())),
+    ("keeps one lower part of two", |machine, tail| machine.run::<Wrong<KEEPS_ONE>>(tail, &mut |_| ())),
+    ("takes the highest root", |machine, tail| machine.run::<Wrong<HIGHEST>>(tail, &mut |_| ())),
+    ("calls an exact path normal", |machine, tail| machine.run::<Wrong<EXACT>>(tail, &mut |_| ())),
+];
+
+/// The mistakes by short names, with one more that is not looked for in tails by chance.
+pub fn by_name(name: &str) -> Option<Mistaken> {
+    match name {
+        "keeps-lower" => Some(MISTAKES[0].1),
+        "keeps-one" => Some(MISTAKES[1].1),
+        "highest" => Some(MISTAKES[2].1),
+        "exact" => Some(MISTAKES[3].1),
+        "shared-past" => Some(|machine, tail| machine.run::<SharedPast>(tail, &mut |_| ())),
+        _ => None,
+    }
+}
+
 /// The names of the mistakes that show on a tail of kinds: the judgement is not the right one.
 pub fn shown(machine: &Machine, tail: &[u16]) -> Vec<&'static str> {
     let right = machine.run::<Trees>(tail, &mut |_| ());
-    let told = [
-        ("keeps a lower part", machine.run::<Wrong<KEEPS_LOWER>>(tail, &mut |_| ())),
-        ("keeps one lower part of two", machine.run::<Wrong<KEEPS_ONE>>(tail, &mut |_| ())),
-        ("takes the highest root", machine.run::<Wrong<HIGHEST>>(tail, &mut |_| ())),
-        ("calls an exact path normal", machine.run::<Wrong<EXACT>>(tail, &mut |_| ())),
-    ];
-    told.iter().filter(|(_, judgement)| *judgement != right).map(|(name, _)| *name).collect()
+    let wrong = MISTAKES.iter().filter(|(_, judged)| judged(machine, tail) != right);
+    wrong.map(|(name, _)| *name).collect()
 }
