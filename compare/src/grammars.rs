@@ -125,6 +125,22 @@ pub fn wide() -> Grammar {
     grammar(61, 2, &rules)
 }
 
+/// The thing of the sixfold grammar.
+pub const SIXFOLD_THING: u16 = 12;
+
+/// Lists of things in six kinds of brackets, each read from the right: a row of things outside its bracket has six readings, each
+/// a stack as deep as the row is long.
+pub fn sixfold() -> Grammar {
+    let (start, thing) = (14, 15);
+    let mut rules: Vec<Vec<u16>> = vec![vec![thing, SIXFOLD_THING], vec![thing, start]];
+    for kind in 0..6 {
+        let list = 16 + kind;
+        rules.push(vec![start, 2 * kind, list, 2 * kind + 1]);
+        rules.extend([vec![list, thing, list], vec![list, thing]]);
+    }
+    grammar(13, 8, &rules.iter().map(Vec::as_slice).collect::<Vec<_>>())
+}
+
 /// Large grammars by name.
 pub fn large() -> Vec<(&'static str, Grammar)> {
     vec![("largest", largest()), ("wide", wide())]

@@ -8,7 +8,6 @@ use compare::options::Options;
 use compare::pairs::{pairs, Pair};
 use compare::run::Comparison;
 use compare::selfcheck::selfcheck;
-use compare::timing::times;
 use compare::traps;
 use compare::vectors;
 use std::io::{Read, Write};
@@ -26,7 +25,6 @@ compare input --seed S --case K [--story ..] [SIZES]
 compare sheet GRAMMAR slr|lalr|canonical
 compare vectors table|large [--expected | --names]
 compare vectors forests [--expected]
-compare time
 SIZES: [--bytes N] [--numbers N] [--tokens N] [--room N], the small box's if not given
 ";
 
@@ -158,11 +156,6 @@ fn command(words: &[String]) -> Result<bool, String> {
         "sheet" => sheet(&options),
         "vectors" if options.word(0) == Some("forests") => forests(&options),
         "vectors" => vectors(&options),
-        "time" => {
-            options.only(&[])?;
-            times();
-            Ok(true)
-        }
         other => Err(format!("no command is called {other}")),
     }
 }

@@ -17,15 +17,17 @@ pub struct Forest<'a> {
     fresh: u32,
     /// Trees that were given back, linked by their next.
     spare: u32,
-    /// The root of each state, where the set of roots has it.
-    root: [u32; STATES],
+    /// The root of each state, where the set of roots has it. A shift phase goes from one of the two to the other.
+    root: [[u32; STATES]; 2],
+    /// Which of the two.
+    side: usize,
     /// The states that are roots.
     pub roots: u128,
 }
 
 impl<'a> Forest<'a> {
     pub fn new(room: &'a mut [u32]) -> Forest<'a> {
-        Forest { room, fresh: 1, spare: 0, root: [0; STATES], roots: 0 }
+        Forest { room, fresh: 1, spare: 0, root: [[0; STATES]; 2], side: 0, roots: 0 }
     }
 
     #[inline]
@@ -83,9 +85,9 @@ impl<'a> Forest<'a> {
         let bit = 1u128 << state;
         if self.roots & bit == 0 {
             self.roots |= bit;
-            self.root[state as usize] = tree;
+            self.root[self.side][state as usize] = tree;
         } else {
-            self.merge(self.root[state as usize], tree);
+            self.merge(self.root[self.side][state as usize], tree);
         }
     }
 
@@ -134,7 +136,7 @@ impl<'a> Forest<'a> {
     /// Reduces the tree of a root by a rule of so many symbols to a left side. Says whether some path ends too soon.
     pub fn reduce(&mut self, actions: &Actions, state: u8, length: u8, left: u8) -> bool {
         self.roots &= !(1u128 << state);
-        self.descend(actions, self.root[state as usize], length, left)
+        self.descend(actions, self.root[self.side][state as usize], length, left)
     }
 
     /// Goes down so many nodes, plants what is there under its go target, and gives the rest back.
@@ -161,11 +163,12 @@ impl<'a> Forest<'a> {
     /// The shift phase on a token.
     pub fn shift(&mut self, actions: &Actions, t: u8) {
         let mut left = std::mem::take(&mut self.roots);
-        let old = self.root;
+        let old = self.side;
+        self.side = 1 - old;
         while left != 0 {
             let state = left.trailing_zeros() as u8;
             left &= left - 1;
-            let tree = old[state as usize];
+            let tree = self.root[old][state as usize];
             match actions.go(state, t) {
                 NONE => self.give(tree),
                 target => {

@@ -9,11 +9,10 @@ use Rattle.theory.specs.Forest as Of
 use Rattle.theory.specs.Forest.{Forest, nothing, join}
 use Rattle.forest.specs.Words.{at}
 use Rattle.forest.specs.Trees.{erase, Rep}
-use Rattle.forest.specs.Picks.{Lists}
 use Rattle.forest.specs.Held.{Held, Merges, SomeExtend}
 use Rattle.forest.specs.Starts.{emptied}
 use Rattle.forest.specs.Plants.{chain, later, planted}
-use Rattle.forest.specs.Prints.{printed, SomePrint, Prints, RoomFor, shown}
+use Rattle.forest.specs.Prints.{printed, Lists, SomePrint, Prints, RoomFor, shown}
 use Rattle.forest.proofs.Growing.{erase-size}
 use Rattle.forest.proofs.Spreading.{size-join}
 use Rattle.forest.proofs.Holding.{held-total, held-in}

@@ -1,24 +1,26 @@
 -- The turns of a growth. Assumes nothing.
-use mathlib.Core.Path.{_≡_, _∙_, refl, ap, subst, subst⁻¹}
+use mathlib.Core.Path.{_≡_, _∙_, refl, sym, ap, subst, subst⁻¹}
+use mathlib.Core.Bool.{Bool, true, false, _||_}
 use mathlib.Core.List.{List}
 use Prim.Native.Nat.{ℕ, zero, suc, _+_, _-_, _<_, _≤_}
 use native.Mathlib.Omega.{arith}
 use lib.ListN.{length}
 use Rattle.theory.specs.Table.{Table}
 use Rattle.theory.specs.Forest as Of
-use Rattle.theory.specs.Forest.{Forest, nothing, tree, grow, over, Rising, bare, rises}
+use Rattle.theory.specs.Forest.{Forest, nothing, tree, grow, short, over, Rising, bare, rises}
 use Rattle.theory.specs.Forest.Sizes.{inner, size-split, parts}
 use Rattle.theory.specs.Forest.Growth.{grow-inner, grow-rising}
 use Rattle.forest.specs.Words.{at, poke, Inside, poke-len, at-same, at-other}
 use Rattle.forest.specs.Trees.{Tree, nil, node, erase, weigh, one, each, occ, size, Rep, live}
 use Rattle.forest.specs.Pools.{Pool, pooled, add, dropped}
-use Rattle.forest.specs.Grows.{Source, SomeSource, Grown, Grows}
+use Rattle.forest.specs.Grows.{Source, SomeSource, Grown, Grows, GrowsTold}
 use Rattle.forest.specs.Rows.{Row}
 use Rattle.forest.proofs.Frame.{one-self, not-none, still, pool-still, kept-rep, live-rep}
 use Rattle.forest.proofs.Below.{lone, drop-len, drop-kept, drop-rep, drop-pool}
 use Rattle.forest.proofs.Keep.{at-own}
 use Rattle.forest.proofs.Turns.{inside-at}
 use Rattle.forest.proofs.Taking.{zero-in}
+use Rattle.forest.proofs.Shortness.{or-false, or-assoc, short-split, short-zero, short-leaf, short-below}
 
 -- a tree has as many nodes as its forest
 pub erase-size : (t : Tree) → Of.size (erase t) ≡ size t
@@ -188,11 +190,17 @@ end-grows w row d x e m t y nil to P R T =
     }
 end-grows w row d x e m t y (node p s k n) to P R T = absurd (omega (arith, T .source .is, T .source .live))
 
--- ---- as the code takes them
-pub record Turned (w row : List ℕ) (d a : ℕ) (v : List ℕ) (a′ : ℕ) : Type 0 where
+-- and no path is short
+pub end-told : (w row : List ℕ) (d x : ℕ) → x ≡ 0 → GrowsTold w row d x w false
+unfolding short
+end-told w row d x e m t y nil to P R T = (end-grows w row d x e m t y nil to P R T, refl)
+end-told w row d x e m t y (node p s k n) to P R T = absurd (omega (arith, T .source .is, T .source .live))
+
+-- ---- as the code takes them: the first tree's part is done, and h is whether a path in it is short
+pub record Turned (w row : List ℕ) (d a : ℕ) (v : List ℕ) (a′ : ℕ) (h : Bool) : Type 0 where
   pub some : SomeSource v row a′
   pub falls : live v a′ < live w a
-  pub back : (u : List ℕ) → Grows v row d a′ u → Grows w row d a u
+  pub back : (u : List ℕ) (r : Bool) → GrowsTold v row d a′ u r → GrowsTold w row d a u (h || r)
 
 -- the place of a root is its own
 own-source : (w : List ℕ) (m x p s : ℕ) (k n to : Tree) (P : Pool) → Source w m x (node p s k n) to P → Source w m p (node p s k n) to P
@@ -237,50 +245,69 @@ module _ (w row : List ℕ) (a : ℕ) (a≢ : a ≡ 0 → ⊥) (S : SomeSource w
       (S .m) (S .f) (S .to) (S .P) (S .holds) (S .goes)
 
   -- what both turns share: the first tree's part is done
-  done : (v : List ℕ) (d : ℕ) →
-      ((m : ℕ) (t : Table) (y p s : ℕ) (k n to : Tree) (P : Pool) → a ≡ p → Row row m t y → Source w m p (node p s k n) to P → Grown w v t y d (node p s k nil) to P) →
-      Turned w row d a v (at w a 2)
-  done v d g =
+  done : (v : List ℕ) (d : ℕ) (h : Bool) →
+      ((m : ℕ) (t : Table) (y p s : ℕ) (k n to : Tree) (P : Pool) → a ≡ p → Row row m t y → Source w m p (node p s k n) to P →
+      Grown w v t y d (node p s k nil) to P × (h ≡ short d (tree s (erase k) nothing))) →
+      Turned w row d a v (at w a 2) h
+  done v d h g =
       record {
         some =
             opens (λ m z f to P. a ≡ z → Row row m (S .t) (S .y) → SomeSource v row (at w z 2))
             (λ m p s k n to P T e R.
-            let G = g m (S .t) (S .y) p s k n to P e R T in
+            let G = g m (S .t) (S .y) p s k n to P e R T .0 in
             record { m = m; t = S .t; y = S .y; f = n; to = G .tree; P = G .left; goes = R; holds = rest-source w m p s k n to P T row v (S .t) (S .y) d R G })
             (S .m) (S .f) (S .to) (S .P) (S .holds) refl (S .goes);
         falls =
             opens (λ m z f to P. a ≡ z → Row row m (S .t) (S .y) → live v (at w z 2) < live w z)
             (λ m p s k n to P T e R.
-            let G = g m (S .t) (S .y) p s k n to P e R T in
+            let G = g m (S .t) (S .y) p s k n to P e R T .0 in
             omega (arith, count-source T, count-source (rest-source w m p s k n to P T row v (S .t) (S .y) d R G)))
             (S .m) (S .f) (S .to) (S .P) (S .holds) refl (S .goes);
         back =
-            λ u H m t y f to P R T.
-            opens (λ m z f to P. a ≡ z → Row row m t y → Grows v row d (at w z 2) u → Grown w u t y d f to P)
+            λ u r H m t y f to P R T.
+            opens (λ m z f to P. a ≡ z → Row row m t y → GrowsTold v row d (at w z 2) u r → Grown w u t y d f to P × ((h || r) ≡ short d (erase f)))
             (λ m p s k n to P T e R H.
-            let G = g m t y p s k n to P e R T in
-            rest-grown w m p s k n to P T row v t y d R G u (H m t y n (G .tree) (G .left) R (rest-source w m p s k n to P T row v t y d R G)))
+            let (G, x) = g m t y p s k n to P e R T in
+            let (N, z) = H m t y n (G .tree) (G .left) R (rest-source w m p s k n to P T row v t y d R G) in (
+              rest-grown w m p s k n to P T row v t y d R G u N,
+              ap (λ (b : Bool). b || r) x ∙ ap (λ (b : Bool). short d (tree s (erase k) nothing) || b) z ∙ sym (short-split d s (erase k) (erase n)),
+            ))
             m f to P T refl R H;
       }
 
   -- a turn at depth 0
-  pub first-turn : (v : List ℕ) → Grows (poke w a 2 0) row 0 a v → Turned w row 0 a v (at w a 2)
+  pub first-turn : (v : List ℕ) → Grows (poke w a 2 0) row 0 a v → Turned w row 0 a v (at w a 2) false
   first-turn v H =
-      done v 0 (λ m t y p s k n to P e R T.
-      first-grown w m p s k n to P T v t y
-      (subst (λ (z : ℕ). Grows (poke w z 2 0) row 0 z v) e H m t y (node p s k nil) to P R (first-source w m p s k n to P T)))
+      done v 0 false (λ m t y p s k n to P e R T. (
+        first-grown w m p s k n to P T v t y
+            (subst (λ (z : ℕ). Grows (poke w z 2 0) row 0 z v) e H m t y (node p s k nil) to P R (first-source w m p s k n to P T)),
+        short-zero s (erase k),
+      ))
+
+  -- whether a path is short in a tree whose root goes: r is whether one is below it
+  root-short : (d p s : ℕ) (k : Tree) (h r : Bool) → Rep w (at w p 1) k → (at w p 1 ≡ 0 → h ≡ true) → ((at w p 1 ≡ 0 → ⊥) → h ≡ r) →
+      r ≡ short d (erase k) → h ≡ short (suc d) (tree s (erase k) nothing)
+  root-short d p s nil h r K none some e = none K ∙ short-leaf d s
+  root-short d p s (node q u l c) h r K none some e =
+      some (λ z. omega (arith, K .is, K .live)) ∙ e ∙ short-below d s u (erase l) (erase c)
 
   -- a turn at a depth above 0
-  pub kids-turn : (v : List ℕ) (d : ℕ) → Grows (dropped w a) row d (at w a 1) v → Turned w row (suc d) a v (at w a 2)
-  kids-turn v d H =
-      done v (suc d) (λ m t y p s k n to P e R T.
-      kids-grown w m p s k n to P T v t y d
-      (subst (λ (z : ℕ). Grows (dropped w z) row d (at w z 1) v) e H m t y k to (add (lone w p) P) R (kids-source w m p s k n to P T)))
+  pub kids-turn : (v : List ℕ) (d : ℕ) (h r : Bool) → (at w a 1 ≡ 0 → h ≡ true) → ((at w a 1 ≡ 0 → ⊥) → h ≡ r) →
+      GrowsTold (dropped w a) row d (at w a 1) v r → Turned w row (suc d) a v (at w a 2) h
+  kids-turn v d h r none some H =
+      done v (suc d) h (λ m t y p s k n to P e R T.
+      let (G, x) = subst (λ (z : ℕ). GrowsTold (dropped w z) row d (at w z 1) v r) e H m t y k to (add (lone w p) P) R (kids-source w m p s k n to P T) in (
+        kids-grown w m p s k n to P T v t y d G,
+        root-short d p s k h r (T .source .kids) (subst (λ (z : ℕ). at w z 1 ≡ 0 → h ≡ true) e none)
+            (subst (λ (z : ℕ). (at w z 1 ≡ 0 → ⊥) → h ≡ r) e some) x,
+      ))
 
   -- the same, with the depth as the code has it
-  pub kids-turn-at : (v : List ℕ) (d : ℕ) → (d ≡ 0 → ⊥) → Grows (dropped w a) row (d - 1) (at w a 1) v → Turned w row d a v (at w a 2)
-  kids-turn-at v zero h H = absurd (h refl)
-  kids-turn-at v (suc d) h H = kids-turn v d (subst (λ (z : ℕ). Grows (dropped w a) row z (at w a 1) v) (omega arith) H)
+  pub kids-turn-at : (v : List ℕ) (d : ℕ) (h r : Bool) → (d ≡ 0 → ⊥) → (at w a 1 ≡ 0 → h ≡ true) → ((at w a 1 ≡ 0 → ⊥) → h ≡ r) →
+      GrowsTold (dropped w a) row (d - 1) (at w a 1) v r → Turned w row d a v (at w a 2) h
+  kids-turn-at v zero h r z none some H = absurd (z refl)
+  kids-turn-at v (suc d) h r z none some H =
+      kids-turn v d h r none some (subst (λ (i : ℕ). GrowsTold (dropped w a) row i (at w a 1) v r) (omega arith) H)
 
   -- the node at hand is in the room
   pub source-in : Inside w a
@@ -293,21 +320,33 @@ module _ (w row : List ℕ) (a : ℕ) (a≢ : a ≡ 0 → ⊥) (S : SomeSource w
       (λ m p s k n to P T l. omega (arith, T .source .state, parts (T .rising) .below))
       (S .m) (S .f) (S .to) (S .P) (S .holds) (S .goes .long)
 
--- the loop's invariant
-pub record Sown (w₀ row : List ℕ) (d x : ℕ) (w : List ℕ) (a : ℕ) : Type 0 where
+-- the loop's invariant; `long` is whether a path was short so far
+pub record Sown (w₀ row : List ℕ) (d x : ℕ) (long : Bool) (w : List ℕ) (a : ℕ) : Type 0 where
   pub some : SomeSource w row a
   pub len : length w ≡ length w₀
-  pub back : (u : List ℕ) → Grows w row d a u → Grows w₀ row d x u
+  pub back : (u : List ℕ) (r : Bool) → GrowsTold w row d a u r → GrowsTold w₀ row d x u (long || r)
 
 -- at first all is left to be grown
-pub sown : {w row : List ℕ} {d x : ℕ} → SomeSource w row x → Sown w row d x w x
-sown S = record { some = S; len = refl; back = λ u H. H }
+pub sown : {w row : List ℕ} {d x : ℕ} → SomeSource w row x → Sown w row d x false w x
+sown S = record { some = S; len = refl; back = λ u r H. H }
 
 -- a turn leaves what the turn says
-pub on : {w₀ row w v : List ℕ} {d x a a′ a″ : ℕ} → Sown w₀ row d x w a → Turned w row d a v a′ → a″ ≡ a′ → length v ≡ length w → Sown w₀ row d x v a″
-on {row = row} {v = v} {d = d} G T e l =
+pub on : {w₀ row w v : List ℕ} {d x a a′ a″ : ℕ} {long h long′ : Bool} → Sown w₀ row d x long w a → Turned w row d a v a′ h → a″ ≡ a′ → length v ≡ length w →
+    long′ ≡ (long || h) → Sown w₀ row d x long′ v a″
+on {w₀} {row} {v = v} {d = d} {x = x} {long = long} {h = h} G T e l o =
     record {
       some = subst⁻¹ (λ (z : ℕ). SomeSource v row z) e (T .some);
       len = l ∙ G .len;
-      back = λ u H. G .back u (T .back u (subst (λ (z : ℕ). Grows v row d z u) e H));
+      back =
+          λ u r H.
+          subst (λ (b : Bool). GrowsTold w₀ row d x u b) (or-assoc long h r ∙ ap (λ (b : Bool). b || r) (sym o))
+          (G .back u (h || r) (T .back u r (subst (λ (z : ℕ). GrowsTold v row d z u r) e H)));
     }
+
+-- at the end the answer is whether a path was short
+pub reaped : {w₀ row w : List ℕ} {d x a : ℕ} {long : Bool} → Sown w₀ row d x long w a → a ≡ 0 → GrowsTold w₀ row d x w long
+reaped {w₀} {row} {w} {d} {x} {a} {long} G e = subst (λ (b : Bool). GrowsTold w₀ row d x w b) (or-false long) (G .back w false (end-told w row d a e))
+
+-- without the answer
+pub untold : {w row : List ℕ} {d x : ℕ} {v : List ℕ} {r : Bool} → GrowsTold w row d x v r → Grows w row d x v
+untold G m t y f to P R T = G m t y f to P R T .0

@@ -10,8 +10,7 @@ use Rattle.theory.specs.Forest as Of
 use Rattle.theory.specs.Forest.{Forest, nothing, tree}
 use Rattle.forest.specs.Words.{maxWords, at, Inside}
 use Rattle.forest.specs.Trees.{Tree, nil, node, erase, size, Rep, live}
-use Rattle.forest.specs.Picks.{Lists}
-use Rattle.forest.specs.Prints.{printed, SomePrint, Prints}
+use Rattle.forest.specs.Prints.{printed, Lists, SomePrint, Prints}
 use Rattle.forest.proofs.Frame.{live-rep}
 
 -- stores of one list after the other are stores of both

@@ -15,13 +15,12 @@ use Rattle.forest.specs.Words.{at}
 use Rattle.forest.specs.Trees.{erase, one, each, occ, size}
 use Rattle.forest.specs.Pools.{pooled}
 use Rattle.forest.specs.Rows.{meant}
-use Rattle.forest.specs.Grows.{Source, SomeSource, Grows}
+use Rattle.forest.specs.Grows.{Source, SomeSource, Grows, GrowsTold}
 use Rattle.forest.specs.Longs.{leaves}
-use Rattle.forest.specs.Picks.{Lists, SomeList, Shorts}
 use Rattle.forest.specs.Held.{Split, Becomes, CanReduce, SomeReduce, ReducesOne, SomeExtend, Extends}
 use Rattle.forest.proofs.Frame.{not-none}
+use Rattle.forest.proofs.Growing.{untold}
 use Rattle.forest.proofs.Runs.{run-once, run-each}
-use Rattle.forest.proofs.Taking.{zero-in}
 use Rattle.forest.proofs.Sprouting.{pool-no-zero, join-nothing}
 use Rattle.forest.proofs.Holding.{size-of, beyond-then, grown-held}
 
@@ -56,10 +55,6 @@ module _ (w : List ℕ) (C p : ℕ) (G F : Forest) (S : Split w C p G F) where
         words = S .words;
       }
 
-  -- and to be asked for short paths
-  pub split-list : Lists w p (S .tree)
-  split-list = record { rep = S .rep; some = zero-in (S .pool); fits = omega (arith, split-total, S .fits); words = S .words }
-
   -- what is grown is held
   pub split-held : (row v : List ℕ) (m : ℕ) (t : Table) (y d : ℕ) → CanReduce row C m t y G F → Grows w row d p v → Becomes w v C (grow t y d G F)
   split-held row v m t y d c g =
@@ -92,38 +87,38 @@ reduce-some {w} {row} {p} S =
       holds = split-source w (S .C) p (S .G) (S .F) (S .split) row (S .m) (S .t) (S .y) (S .can);
     }
 
--- what the question for short paths asks
-pub reduce-list : {w row : List ℕ} {p : ℕ} → SomeReduce w row p → SomeList w p
-reduce-list {w} {row} {p} S = record { f = S .split .tree; holds = split-list w (S .C) p (S .G) (S .F) (S .split) }
-
 -- what the adding of one-node trees asks after it
-pub reduce-extend : {w row v : List ℕ} {p d : ℕ} → SomeReduce w row p → Grows w row d p v → SomeExtend v row
+pub reduce-extend : {w row v : List ℕ} {p d : ℕ} → SomeReduce w row p → {r : Bool} → GrowsTold w row d p v r → SomeExtend v row
 reduce-extend {w} {row} {v} {p} {d} S g =
     record {
       C = S .C;
       F = grow (S .t) (S .y) d (S .G) (S .F);
-      held = split-held w (S .C) p (S .G) (S .F) (S .split) row v (S .m) (S .t) (S .y) d (S .can) g .held;
+      held = split-held w (S .C) p (S .G) (S .F) (S .split) row v (S .m) (S .t) (S .y) d (S .can) (untold g) .held;
       room = grow-room row (S .C) (S .m) (S .t) (S .y) d (S .G) (S .F) (S .can);
     }
 
--- the answer is whether the reduction is long
-is-short : (w : List ℕ) (C p : ℕ) (G F : Forest) (S : Split w C p G F) (d : ℕ) (r : Bool) → Shorts w d p r → r ≡ short d G
-is-short w C p G F S d r s = s (S .tree) (split-list w C p G F S) ∙ ap (λ (z : Forest). short d z) (S .is)
+module _ (w row : List ℕ) (d p : ℕ) (v : List ℕ) (r : Bool) (told : GrowsTold w row d p v r) where
+  abbrev g : Grows w row d p v
+  g = untold told
 
-module _ (w row : List ℕ) (d p : ℕ) (v : List ℕ) (g : Grows w row d p v) where
+  -- the answer is whether the reduction is long
+  is-short : (C m : ℕ) (t : Table) (y : ℕ) (G F : Forest) (S : Split w C p G F) → CanReduce row C m t y G F → r ≡ short d G
+  is-short C m t y G F S c =
+      told m t y (S .tree) (S .roots) (S .P) (c .goes) (split-source w C p G F S row m t y c) .1 ∙ ap (λ (z : Forest). short d z) (S .is)
+
   -- no path is short
-  pub reduces-long : (add r : Bool) → r ≡ false → Shorts w d p r → ReducesOne w row d p add v r
-  reduces-long add r e s C m t y G F S c =
-      let q = is-short w C p G F S d r s in (
+  pub reduces-long : (add : Bool) → r ≡ false → ReducesOne w row d p add v r
+  reduces-long add e C m t y G F S c =
+      let q = is-short C m t y G F S c in (
         q,
         subst (λ (b : Bool). Becomes w v C (cond b (join (grow t y d G F) (cond add (leaves (meant row) 0 (length row)) nothing)) (grow t y d G F))) (sym e ∙ q)
             (split-held w C p G F S row v m t y d c g),
       )
 
   -- one is, and nothing is to be added
-  pub reduces-short : (add r : Bool) → add ≡ false → r ≡ true → Shorts w d p r → ReducesOne w row d p add v r
-  reduces-short add r a e s C m t y G F S c =
-      let q = is-short w C p G F S d r s in (
+  pub reduces-short : (add : Bool) → add ≡ false → r ≡ true → ReducesOne w row d p add v r
+  reduces-short add a e C m t y G F S c =
+      let q = is-short C m t y G F S c in (
         q,
         subst (λ (b : Bool). Becomes w v C (cond b (join (grow t y d G F) (cond add (leaves (meant row) 0 (length row)) nothing)) (grow t y d G F))) (sym e ∙ q)
             (subst (λ (b : Bool). Becomes w v C (join (grow t y d G F) (cond b (leaves (meant row) 0 (length row)) nothing))) (sym a)
@@ -131,9 +126,9 @@ module _ (w row : List ℕ) (d p : ℕ) (v : List ℕ) (g : Grows w row d p v) w
       )
 
   -- one is, and the row's trees are added
-  pub reduces-added : (add r : Bool) → add ≡ true → r ≡ true → Shorts w d p r → (u : List ℕ) → Extends v row u → ReducesOne w row d p add u r
-  reduces-added add r a e s u x C m t y G F S c =
-      let q = is-short w C p G F S d r s in
+  pub reduces-added : (add : Bool) → add ≡ true → r ≡ true → (u : List ℕ) → Extends v row u → ReducesOne w row d p add u r
+  reduces-added add a e u x C m t y G F S c =
+      let q = is-short C m t y G F S c in
       let B = split-held w C p G F S row v m t y d c g in
       let X = x C (grow t y d G F) (B .held) (grow-room row C m t y d G F c) in
       let added : Becomes w u C (join (grow t y d G F) (leaves (meant row) 0 (length row)))

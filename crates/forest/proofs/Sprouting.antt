@@ -65,7 +65,7 @@ module _ (w : List ℕ) (p s x : ℕ) where
       (pool-still₀ (poke w p 0 s) p 1 x P (omega arith) l z (pool-still₀ w p 0 s P (omega arith) l z o))
 
   -- the root's state
-  state-of : Inside w p → at (rooted w p s x) p 0 ≡ s
+  pub state-of : Inside w p → at (rooted w p s x) p 0 ≡ s
   unfolding rooted
   state-of h =
       at-other (poke (poke w p 0 s) p 1 x) p 2 0 p 0 (omega arith) (omega arith) (λ e z. omega arith)

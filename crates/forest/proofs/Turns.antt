@@ -4,10 +4,11 @@ use mathlib.Core.List.{List}
 use Prim.Native.Nat.{ℕ, _+_, _*_, _<_, _≤_}
 use native.Mathlib.Omega.{arith}
 use lib.ListN.{length}
-use Rattle.forest.specs.Words.{at, poke, Inside}
+use lib.Seq.{set-getD}
+use Rattle.forest.specs.Words.{stride, at, poke, Inside}
 use Rattle.forest.specs.Trees.{Tree, nil, node, erase, size, Rep, live}
 use Rattle.forest.specs.Pools.{Pool, add, dropped}
-use Rattle.forest.specs.Joins.{Two, SomeTwo, Joined, Joins, SomePair, Meets}
+use Rattle.forest.specs.Joins.{Two, SomeTwo, Joined, Joins, SomePair, Meets, Passed}
 use Rattle.forest.proofs.Frame.{live-rep}
 use Rattle.forest.proofs.Keep.{means-less, means-more, at-own, less-two, less-end, more-two, more-end, same-pair, same-two, same-end}
 use Rattle.forest.proofs.Below.{lone, both-two}
@@ -138,6 +139,25 @@ module _ (w : List ℕ) (d j x y : ℕ) (x≢ : x ≡ 0 → ⊥) (y≢ : y ≡ 0
       let b = live-rep k′ (poke w d j p) _ (z .second) (omega (arith, z .fits)) in
       omega (arith, count-two T))
       (S .f) (S .g) (S .P) (S .two)
+
+-- a word that stays what it is changes nothing
+poke-at : (w : List ℕ) (d j : ℕ) → poke w d j (at w d j) ≡ w
+unfolding poke at
+poke-at w d j = set-getD w (stride * d + j) 0
+
+-- at first no root is passed by
+pub passing : (w : List ℕ) (p a : ℕ) → SomeTwo w 0 1 (at w 0 1) p → a ≡ at w 0 1 → Passed w p 0 1 a
+passing w p a S e = subst⁻¹ (λ (z : ℕ). Passed w p 0 1 z) e (record { some = S; leads = refl; back = λ u J. J })
+
+-- one root more is passed by: its state is lower
+pub passes : (w : List ℕ) (p d j a : ℕ) → (a ≡ 0 → ⊥) → (p ≡ 0 → ⊥) → Passed w p d j a → at w a 0 < at w p 0 →
+    Passed w p a 2 (at w a 2) × (live w (at w a 2) < live w a)
+passes w p d j a a≢ p≢ G l =
+    let e : poke w d j a ≡ w = subst (λ (z : ℕ). poke w d j z ≡ w) (G .leads) (poke-at w d j) in
+    let T = subst (λ (v : List ℕ). Turn w d j a p v a 2 (at w a 2) p) e (turn-less w d j a p a≢ p≢ (G .some) l) in (
+      record { some = T .some; leads = refl; back = λ u J. G .back u (T .back u J) },
+      omega (arith, T .falls),
+    )
 
 -- what a list begins with is in the room
 pub inside-at : (w : List ℕ) (d : ℕ) (t : Tree) (x : ℕ) → Inside w d → Rep w x t → Inside w x

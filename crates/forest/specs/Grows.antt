@@ -1,10 +1,11 @@
 -- What growth asks and leaves: the trees some nodes below a list get new roots and are merged into the forest, node 0's roots.
 use mathlib.Core.Path.{_≡_}
+use mathlib.Core.Bool.{Bool}
 use mathlib.Core.List.{List}
 use Prim.Native.Nat.{ℕ, _+_, _≤_, _<_}
 use lib.ListN.{length}
 use Rattle.theory.specs.Table.{Table}
-use Rattle.theory.specs.Forest.{grow, Rising}
+use Rattle.theory.specs.Forest.{grow, short, Rising}
 use Rattle.theory.specs.Forest.Sizes.{width}
 use Rattle.forest.specs.Words.{stateWord, childWord, nextWord, rootsWord, at, poke, maxWords}
 use Rattle.forest.specs.Trees.{Tree, erase, weigh, one, each, occ, size, Rep}
@@ -50,6 +51,11 @@ pub record Grown (w v : List ℕ) (t : Table) (y d : ℕ) (f to : Tree) (P : Poo
 -- whatever trees and store the words held, whatever table the row is of
 abbrev pub Grows : List ℕ → List ℕ → ℕ → ℕ → List ℕ → Type 0
 Grows w row d x v = (m : ℕ) (t : Table) (y : ℕ) (f to : Tree) (P : Pool) → Row row m t y → Source w m x f to P → Grown w v t y d f to P
+
+-- the same, and the answer is whether a path of the trees is short
+abbrev pub GrowsTold : List ℕ → List ℕ → ℕ → ℕ → List ℕ → Bool → Type 0
+GrowsTold w row d x v r = (m : ℕ) (t : Table) (y : ℕ) (f to : Tree) (P : Pool) → Row row m t y → Source w m x f to P →
+    Grown w v t y d f to P × (r ≡ short d (erase f))
 
 -- the words with node p a root of state s above the list at x
 unfoldable pub rooted : List ℕ → ℕ → ℕ → ℕ → List ℕ

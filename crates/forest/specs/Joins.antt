@@ -4,7 +4,7 @@ use mathlib.Core.List.{List}
 use Prim.Native.Nat.{ℕ, _+_, _≤_, _<_}
 use lib.ListN.{length}
 use Rattle.theory.specs.Forest.{join, meet}
-use Rattle.forest.specs.Words.{stride, childWord, at, Inside, maxWords}
+use Rattle.forest.specs.Words.{stride, childWord, rootsWord, at, Inside, maxWords}
 use Rattle.forest.specs.Trees.{Tree, erase, weigh, one, occ, size, Rep}
 use Rattle.forest.specs.Pools.{Pool, pooled, Pooled}
 
@@ -46,6 +46,12 @@ pub record Joined (w v : List ℕ) (d j : ℕ) (f g : Tree) (P : Pool) : Type 0 
 -- whatever trees and store the words held
 abbrev pub Joins : List ℕ → ℕ → ℕ → ℕ → ℕ → List ℕ → Type 0
 Joins w d j x y v = (f g : Tree) (P : Pool) → Two w d j x y f g P → Joined w v d j f g P
+
+-- Word j of node d leads to a, and to join what is there with the list at p is to join all roots with it.
+pub record Passed (w : List ℕ) (p d j a : ℕ) : Type 0 where
+  pub some : SomeTwo w d j a p
+  pub leads : at w d j ≡ a
+  pub back : (u : List ℕ) → Joins w d j a p u → Joins w 0 rootsWord (at w 0 rootsWord) p u
 
 -- Nodes a and b have the children k and k′, and all are apart.
 pub record Pair (w : List ℕ) (a b : ℕ) (k k′ : Tree) (P : Pool) : Type 0 where

@@ -1,31 +1,14 @@
--- What is asked of a list of trees and told of it: whether a path is short, and the lowest root that reduces.
+-- What is asked of a list of trees and told of it: the lowest root that reduces.
 use mathlib.Core.Path.{_≡_}
-use mathlib.Core.Bool.{Bool}
 use mathlib.Core.Option.{none, some}
 use mathlib.Core.List.{List}
 use Prim.Native.Nat.{ℕ, _+_, _≤_, _<_}
 use lib.ListN.{length}
 use Rattle.theory.specs.Table.{Table, reduceOn}
-use Rattle.theory.specs.Forest.{Forest, nothing, tree, short, choose, Rising}
+use Rattle.theory.specs.Forest.{Forest, nothing, tree, choose, Rising}
 use Rattle.forest.specs.Words.{stride, at, Inside, maxWords}
 use Rattle.forest.specs.Trees.{Tree, erase, weigh, occ, size, Rep}
 use Rattle.forest.specs.Rows.{Acts}
-
--- the words hold f at x
-pub record Lists (w : List ℕ) (x : ℕ) (f : Tree) : Type 0 where
-  pub rep : Rep w x f
-  pub some : Inside w 0
-  pub fits : size f ≤ length w
-  pub words : length w ≤ maxWords
-
--- some trees
-pub record SomeList (w : List ℕ) (x : ℕ) : Type 0 where
-  pub f : Tree
-  pub holds : Lists w x f
-
--- the answer is whether a path of the trees is short
-abbrev pub Shorts : List ℕ → ℕ → ℕ → Bool → Type 0
-Shorts w d x r = (f : Tree) → Lists w x f → r ≡ short d (erase f)
 
 -- word j of node d leads to f
 pub record Linked (w : List ℕ) (d j m : ℕ) (f : Tree) : Type 0 where

@@ -7,15 +7,21 @@ use lib.ListN.{length, drop}
 use lib.Seq.{sets}
 use Rattle.lines.specs.Limits.{maxTail}
 use Rattle.theory.specs.Forest.{Forest, nothing, tree, join}
-use Rattle.forest.specs.Words.{stride, maxWords}
-use Rattle.forest.specs.Trees.{Tree, erase}
-use Rattle.forest.specs.Picks.{Lists}
+use Rattle.forest.specs.Words.{stride, Inside, maxWords}
+use Rattle.forest.specs.Trees.{Tree, erase, size, Rep}
 use Rattle.forest.specs.Plants.{planted}
 
 -- Trees side by side: each root's state and 1, then the print of its children; after the last tree a 0.
 unfoldable pub printed : Forest → List ℕ
 printed nothing = 0 ∷ []
 printed (tree s kids beside) = (s + 1) ∷ (printed kids ++ printed beside)
+
+-- the words hold f at x
+pub record Lists (w : List ℕ) (x : ℕ) (f : Tree) : Type 0 where
+  pub rep : Rep w x f
+  pub some : Inside w 0
+  pub fits : size f ≤ length w
+  pub words : length w ≤ maxWords
 
 -- the words hold some trees at x, and their print has places from n on
 pub record SomePrint (w : List ℕ) (x : ℕ) (out : List ℕ) (n : ℕ) : Type 0 where

@@ -4,7 +4,6 @@ ghost use Rattle.forest.specs.Joins.{SomeTwo};
 ghost use Rattle.forest.specs.Held.{SomeShift, Shifts, Settles, SomeExtend, Extends, SomeReduce, ReducesOne};
 use crate::trees::grow;
 use crate::trees::join;
-use crate::trees::short;
 use crate::trees::spread;
 use crate::words::ASIDE;
 use crate::words::ROOTS;
@@ -47,9 +46,7 @@ pub fn reduce(room: &mut [u32], row: &[u16], depth: usize, p: usize, add: bool) 
     requires { ⌜ SomeReduce (now room) (now row) p ⌝ }
     ensures { λ r. ⌜ ReducesOne (now (room .entry)) (now (row .entry)) depth p add (now (room .exit)) r ⌝ }
 {
-    let long = short(room, depth, p);
-    grow(room, row, depth, p);
-    if long {
+    if grow(room, row, depth, p) {
         if add {
             extend(room, row);
             return true;

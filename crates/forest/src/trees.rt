@@ -1,13 +1,14 @@
-// Trees of the room, by their places: merged, grown, asked whether a path is short, chosen from, and made of one node each.
+// Trees of the room, by their places: merged, grown from, chosen from, and made of one node each.
 // A list of trees is the place of its first root; the trees beside it follow by NEXT, in rising order of state.
 // Calls go as deep as trees are, and never along trees side by side.
 ghost use mathlib.Core.Path.{_≡_};
+ghost use mathlib.Core.Bool.{_||_};
 ghost use Prim.Native.Nat.{_≤_, _<_};
 ghost use lib.ListN.{length};
 ghost use Rattle.forest.specs.Words.{at, Inside, maxWords};
-ghost use Rattle.forest.specs.Joins.{SomeTwo, Joins, SomePair, Meets};
-ghost use Rattle.forest.specs.Grows.{SomeSource, Grows, rooted};
-ghost use Rattle.forest.specs.Picks.{SomeList, Shorts, SomeLinked, Picks};
+ghost use Rattle.forest.specs.Joins.{SomeTwo, Joins, SomePair, Meets, Passed};
+ghost use Rattle.forest.specs.Grows.{SomeSource, Grows, GrowsTold, rooted};
+ghost use Rattle.forest.specs.Picks.{SomeLinked, Picks};
 ghost use Rattle.forest.specs.Longs.{SomePlenty, Spreads};
 use crate::store::drop_one;
 use crate::store::push;
@@ -82,6 +83,53 @@ fn meet(room: &mut [u32], a: usize, b: usize)
     join(room, a, CHILD, c, e);
 }
 
+// A place in the list of roots: the word of the node that leads to the rest, and the rest.
+struct Place {
+    node: usize,
+    word: usize,
+    rest: usize,
+}
+
+// The place in the list of roots where the tree at p, of state s, is to go: behind the roots of lower states.
+fn place_of(room: &[u32], p: usize, s: usize) -> Place
+    requires { ⌜ SomeTwo (now room) 0 1 (at (now room) 0 1) p × (0 < p) × (at (now room) p 0 ≡ s) ⌝ }
+    ensures { λ r. ⌜ Passed (now (room .entry)) p (r .node) (r .word) (r .rest) ⌝ }
+{
+    let mut d = 0;
+    let mut j = ROOTS;
+    let mut a = get(room, 0, ROOTS);
+    while a != 0 {
+        if s <= get(room, a, STATE) {
+            return Place {
+                node: d,
+                word: j,
+                rest: a,
+            };
+        }
+        d = a;
+        j = NEXT;
+        a = get(room, a, NEXT);
+    }
+    Place {
+        node: d,
+        word: j,
+        rest: a,
+    }
+}
+
+// The tree at p, of state s, is merged into the forest.
+fn insert(room: &mut [u32], p: usize, s: usize)
+    requires { ⌜ SomeTwo (now room) 0 1 (at (now room) 0 1) p × (0 < p) × (at (now room) p 0 ≡ s) ⌝ }
+    ensures { λ _. ⌜ Joins (now (room .entry)) 0 1 (at (now (room .entry)) 0 1) p (now (room .exit)) ⌝ }
+{
+    let place = place_of(room, p, s);
+    if place.rest == 0 {
+        put(room, place.node, place.word, p);
+        return;
+    }
+    join(room, place.node, place.word, place.rest, p);
+}
+
 // Node p becomes a root of state s above the list at x.
 pub fn lay(room: &mut [u32], p: usize, s: usize, x: usize)
     requires { ⌜ Inside (now room) p × (length (now room) ≤ maxWords) × (s < 4294967296) × (x < 4294967296) ⌝ }
@@ -106,50 +154,43 @@ fn sprout(room: &mut [u32], row: &[u16], a: usize)
     }
     let p = take(room);
     lay(room, p, u - 1, a);
-    let r = get(room, 0, ROOTS);
-    join(room, 0, ROOTS, r, p);
+    insert(room, p, u - 1);
 }
 
-// The trees whose roots are `depth` nodes below the list at x get new roots and are merged into the forest; the nodes above them go.
-pub fn grow(room: &mut [u32], row: &[u16], depth: usize, x: usize)
-    requires { ⌜ SomeSource (now room) (now row) x ⌝ }
-    ensures { λ _. ⌜ Grows (now (room .entry)) (now (row .entry)) depth x (now (room .exit)) ⌝ }
+// Whether one of the two holds.
+fn either(a: bool, b: bool) -> bool
+    ensures { λ r. ⌜ r ≡ (a || b) ⌝ }
 {
+    if a { true } else { b }
+}
+
+// The trees whose roots are `depth` nodes below the list at x get new roots and are merged into the forest; the nodes above them go. The
+// answer is whether some path down from the list ended above that depth. The row is lent on as a part of itself, all of it: so no copy of
+// the reference is made, which is slow.
+pub fn grow(room: &mut [u32], row: &[u16], depth: usize, x: usize) -> bool
+    requires { ⌜ SomeSource (now room) (now row) x ⌝ }
+    ensures { λ r. ⌜ GrowsTold (now (room .entry)) (now (row .entry)) depth x (now (room .exit)) r ⌝ }
+{
+    let width = row.len();
+    let mut long = false;
     let mut a = x;
     while a != 0 {
         let n = get(room, a, NEXT);
         if depth == 0 {
             put(room, a, NEXT, 0);
-            sprout(room, row, a);
+            sprout(room, &row[..width], a);
         } else {
             let c = get(room, a, CHILD);
             drop_one(room, a);
-            grow(room, row, depth - 1, c);
+            if c == 0 {
+                long = true;
+            } else {
+                long = either(long, grow(room, &row[..width], depth - 1, c));
+            }
         }
         a = n;
     }
-}
-
-// Whether some path down from the list at x ends above that depth.
-pub fn short(room: &[u32], depth: usize, x: usize) -> bool
-    requires { ⌜ SomeList (now room) x ⌝ }
-    ensures { λ r. ⌜ Shorts (now (room .entry)) depth x r ⌝ }
-{
-    if depth < 1 {
-        return false;
-    }
-    let mut a = x;
-    while a != 0 {
-        let c = get(room, a, CHILD);
-        if c == 0 {
-            return true;
-        }
-        if short(room, depth - 1, c) {
-            return true;
-        }
-        a = get(room, a, NEXT);
-    }
-    false
+    long
 }
 
 // The lowest root that reduces, taken out of the forest; 0 if none does.

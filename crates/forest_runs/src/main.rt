@@ -48,9 +48,8 @@ fn tell(told: bool, out: &[usize]) {
         io::write_all(STDOUT_FILENO, b"refused ");
     }
     let end = letters::show(out);
-    io::write_all(STDOUT_FILENO, b" ");
     let same = places::same_from(out, end);
-    io::print_decimal(STDOUT_FILENO, (same - end) as u64);
+    runs::show(same - end);
     io::write_all(STDOUT_FILENO, b"\n");
 }
 

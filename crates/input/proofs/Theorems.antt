@@ -4,10 +4,13 @@ use mathlib.Core.Path.{_≡_, sym, _∙_, subst}
 use mathlib.Core.List.{List, List·Memᴰ as Mem}
 use contract.Lifetimes.{Lfts}
 use denote.Ref.{now}
+use Rattle.theory.specs.Table.{Table}
+use Rattle.sheet.specs.Tail.{Words, tailLine}
+use Rattle.judge.specs.Judge.{Good, Ready}
 use Rattle.judge.specs.declared.Judgement.{Judgement}
-use Rattle.input.specs.Box.{smallBox, largeBox, Boxes}
+use Rattle.input.specs.Box.{smallBox, largeBox, Boxes, Given, numbersOf}
 use Rattle.input.specs.Box.Exact.{unique as one-outcome}
-use Rattle.input.specs.Box.Worth.{Worthy, box-demands}
+use Rattle.input.specs.Box.Worth.{Worthy, box-demands, box-not-refused}
 use Rattle.input.specs.Box.Answers.{no-steps}
 use Rattle.input.specs.Marked.{Case, cases, marked}
 use Rattle.input.proofs.judge_box.Reads as B
@@ -28,8 +31,20 @@ pub lines-unique : (κs : Lfts 1) (a : _) (r r′ : ℕ) (e e′ : _) → T.Lear
 lines-unique κs a r r′ e e′ p q = (p .1 .0 ∙ sym (q .1 .0), p .1 .1 ∙ sym (q .1 .1))
 
 -- a judgement that is no refusal is worth demands 2 and 3
-pub judged : (κs : Lfts 1) (a : _) (r : Judgement) (e : _) → B.Learnt κs a r e → r .answer < 2 → Worthy smallBox (now (a .0)) r
-judged κs a r e p l = box-demands p l
+pub worthy : (κs : Lfts 1) (a : _) (r : Judgement) (e : _) → B.Learnt κs a r e → r .answer < 2 → Worthy smallBox (now (a .0)) r
+worthy κs a r e p l = box-demands p l
+
+-- the sheet of a table which passes, and the line of a tail that is ready, are not refused
+pub judged : (κs : Lfts 1) (a : _) (r : Judgement) (e : _) → B.Learnt κs a r e → (last xs : List ℕ) (t : Table) →
+    Given smallBox (now (a .0)) last t → last ≡ tailLine xs → Words xs → Good (numbersOf t) t → Ready (smallBox .tokens) xs (smallBox .words) t →
+    (r .answer < 2) × Worthy smallBox (now (a .0)) r
+judged κs a r e p last xs t g s w o y = let l = box-not-refused g s w o y p in (l, box-demands p l)
+
+-- the same of `judge_large`
+pub large-judged : (κs : Lfts 1) (a : _) (r : Judgement) (e : _) → L.Learnt κs a r e → (last xs : List ℕ) (t : Table) →
+    Given largeBox (now (a .0)) last t → last ≡ tailLine xs → Words xs → Good (numbersOf t) t → Ready (largeBox .tokens) xs (largeBox .words) t →
+    (r .answer < 2) × Worthy largeBox (now (a .0)) r
+large-judged κs a r e p last xs t g s w o y = let l = box-not-refused g s w o y p in (l, box-demands p l)
 
 -- every refusal has no steps
 pub refused : (κs : Lfts 1) (a : _) (r : Judgement) (e : _) → B.Learnt κs a r e → 2 ≤ r .answer → r .steps ≡ 0

@@ -11,6 +11,7 @@ use lines::Shape;
 use room::JUNK;
 use room::end_of;
 use room::fill;
+use runs::show;
 use sheet::BOX;
 use sheet::GO_TARGET;
 use sheet::STATES;
@@ -28,12 +29,6 @@ const WORDS: usize = Shape::STRIDE * STATES * (Shape::MAX_TAIL + 2) + MORE;
 
 // Half the most tokens.
 const HALF: usize = 2048;
-
-// Prints a number after a space.
-fn show(number: usize) {
-    io::write_all(STDOUT_FILENO, b" ");
-    io::print_decimal(STDOUT_FILENO, number as u64);
-}
 
 // Prints what came back, and what became of the room.
 fn tell(name: &[u8], j: Judgement, room: &[u32]) {

@@ -63,6 +63,10 @@ withDue s w = record {
   above = s .above;
 }
 
+-- where no line is due the shape is that with none due
+pub end-same : (s : Shape) → s .due ≡ End → withDue s End ≡ s
+end-same s e = ap (withDue s) (sym e)
+
 -- where no line is due the shape stays
 pub next-end : (s : Shape) (xs : List ℕ) → s .due ≡ End → s ≡ nextShape s xs
 unfolding nextShape

@@ -1,6 +1,7 @@
 -- Laws on the tests of a line: a sum compared by a difference, and tests over a list, one member at a time.
 use Prim.Native.Nat.{ℕ, zero, suc, _+_, _-_, _≤_, _<_}
 use native.Mathlib.Omega.{arith}
+use native.Mathlib.Decide.{decLe}
 use native.Mathlib.Numerals.{add-one}
 use mathlib.Core.Path.{_≡_, refl, sym, ap, _∙_}
 use mathlib.Core.Bool.{Bool, true, false, _&&_, and-true, and-false}
@@ -81,12 +82,16 @@ rises-at [] = refl
 rises-at (x ∷ xs) = rw (leb·zero x) (rises-from x xs)
 
 -- what is left of a look-ahead set, whose next member is at least the number
-abbrev pub aheadAt : ℕ → ℕ → List ℕ → Bool
+abbrev aheadAt : ℕ → ℕ → List ℕ → Bool
 aheadAt t least xs = all (isAhead t) xs && risesAt least xs
 
+-- the same, and the members before it, which rise up to below the number, are kinds or the end mark
+abbrev pub aheadFrom : ℕ → ℕ → List ℕ → Bool
+aheadFrom t least xs = leb least (suc t) && aheadAt t least xs
+
 -- before the first member
-pub ahead-start : (t : ℕ) (s : List ℕ) → aheadFits t s ≡ aheadAt t 0 s
-ahead-start t s = ap (λ (b : Bool). all (isAhead t) s && b) (rises-at s)
+pub ahead-start : (t : ℕ) (s : List ℕ) → aheadFits t s ≡ aheadFrom t 0 s
+ahead-start t s = rw (leb·zero (suc t)) (ap (λ (b : Bool). all (isAhead t) s && b) (rises-at s))
 
 -- one member more
 ahead-more : (t least : ℕ) (s : List ℕ) (i : ℕ) → i < length s →
@@ -94,20 +99,39 @@ ahead-more : (t least : ℕ) (s : List ℕ) (i : ℕ) → i < length s →
 unfolding all risesAt
 ahead-more t least s i h = rw (add-one i, drop-cons s i 0 h, add-one (getD s i 0))
 
--- it does not rise
-pub ahead-low : (t least : ℕ) (s : List ℕ) (i : ℕ) → i < length s → getD s i 0 < least → aheadAt t least (drop i s) ≡ false
-ahead-low t least s i h k = ahead-more t least s i h ∙ rw (lt-leb least (getD s i 0) k) (and-false (leb (getD s i 0) t && all (isAhead t) (drop (i + 1) s)))
+module _ (t least : ℕ) (s : List ℕ) (i : ℕ) where
+  -- the next member does not rise
+  pub ahead-low : i < length s → getD s i 0 < least → aheadFrom t least (drop i s) ≡ false
+  ahead-low h k =
+      ap (λ (b : Bool). leb least (suc t) && b)
+      (ahead-more t least s i h ∙ rw (lt-leb least (getD s i 0) k) (and-false (leb (getD s i 0) t && all (isAhead t) (drop (i + 1) s)))) ∙
+      and-false (leb least (suc t))
 
--- it is no kind and not the end mark
-pub ahead-high : (t least : ℕ) (s : List ℕ) (i : ℕ) → i < length s → t < getD s i 0 → aheadAt t least (drop i s) ≡ false
-ahead-high t least s i h k = ahead-more t least s i h ∙ rw (lt-leb (getD s i 0) t k) refl
+  -- it rises
+  pub ahead-rises : i < length s → least ≤ getD s i 0 → aheadFrom t least (drop i s) ≡ aheadFrom t (getD s i 0 + 1) (drop (i + 1) s)
+  ahead-rises h j = by (decLe (getD s i 0) t)
+    where
+      by : Dec (getD s i 0 ≤ t) → aheadFrom t least (drop i s) ≡ aheadFrom t (getD s i 0 + 1) (drop (i + 1) s)
+      by (yes k) =
+          rw (le-leb least (suc t) (omega arith), le-leb (getD s i 0 + 1) (suc t) (omega arith))
+          (ahead-more t least s i h ∙ rw (le-leb (getD s i 0) t k, le-leb least (getD s i 0) j) refl)
+      by (no k) =
+          rw (lt-leb (getD s i 0 + 1) (suc t) (omega arith))
+          (ap (λ (b : Bool). leb least (suc t) && b) (ahead-more t least s i h ∙ rw (lt-leb (getD s i 0) t (omega arith)) refl) ∙ and-false (leb least (suc t)))
 
--- it passes
-pub ahead-passes : (t least : ℕ) (s : List ℕ) (i : ℕ) → i < length s → least ≤ getD s i 0 → getD s i 0 ≤ t →
-    aheadAt t least (drop i s) ≡ aheadAt t (getD s i 0 + 1) (drop (i + 1) s)
-ahead-passes t least s i h j k = ahead-more t least s i h ∙ rw (le-leb (getD s i 0) t k, le-leb least (getD s i 0) j) refl
+  -- none is left
+  none-left : i ≡ length s → aheadFrom t least (drop i s) ≡ leb least (suc t)
+  unfolding all risesAt
+  none-left e = rw (e, drop-length s) (and-true (leb least (suc t)))
 
--- none is left
-pub ahead-done : (t least : ℕ) (s : List ℕ) (i : ℕ) → i ≡ length s → aheadAt t least (drop i s) ≡ true
-unfolding all risesAt
-ahead-done t least s i e = rw (e, drop-length s)
+  -- and there was none
+  pub ahead-none : i ≡ length s → least ≡ 0 → aheadFrom t least (drop i s) ≡ true
+  ahead-none e z = none-left e ∙ le-leb least (suc t) (omega arith)
+
+  -- and the last was below the number
+  pub ahead-last : i ≡ length s → (least ≡ 0 → ⊥) → aheadFrom t least (drop i s) ≡ leb (least - 1) t
+  ahead-last e z = none-left e ∙ by (decLe least (suc t))
+    where
+      by : Dec (least ≤ suc t) → leb least (suc t) ≡ leb (least - 1) t
+      by (yes k) = le-leb least (suc t) k ∙ sym (le-leb (least - 1) t (omega arith))
+      by (no k) = lt-leb least (suc t) (omega arith) ∙ sym (lt-leb (least - 1) t (omega arith))

@@ -73,20 +73,25 @@ startShape = headingShape Terms 0 0 0 0
 
 -- ---- one line's numbers
 
--- whether they fit; the list has the lengths of the right sides
-unfoldable pub fitsShape : Shape → List ℕ → List ℕ → Bool
+-- whether they fit where that line is due: after t kinds, n nonterminals, r rules with right sides of these lengths, and m states, of the go lines
+-- that may be on a and above
+unfoldable pub fitsDue : Due → ℕ → ℕ → ℕ → ℕ → ℕ → List ℕ → List ℕ → Bool
 unfolding fitsRule fitsState fitsItem fitsGo
-fitsShape s ls xs = elim (s .due) [
+fitsDue w t n r m a ls xs = elim w [
   | Terms ↦ fitsOne maxTerms xs
   | Nonterms ↦ fitsOne maxNonterms xs
   | Rules ↦ fitsOne maxRules xs
-  | Rule ↦ ltb (s .rules) maxRules && fitsRule (s .terms) (s .nonterms) xs
+  | Rule ↦ ltb r maxRules && fitsRule t n xs
   | States ↦ fitsOne maxStates xs
   | State ↦ fitsState xs
-  | Item ↦ fitsItem (s .terms) (take (s .rules) ls) xs
-  | Go ↦ fitsGo (s .terms) (s .nonterms) (s .states) (leb (s .above)) xs
+  | Item ↦ fitsItem t (take r ls) xs
+  | Go ↦ fitsGo t n m (leb a) xs
   | End ↦ false
 ]
+
+-- whether they fit after what a shape says; the list has the lengths of the right sides
+abbrev pub fitsShape : Shape → List ℕ → List ℕ → Bool
+fitsShape s ls xs = fitsDue (s .due) (s .terms) (s .nonterms) (s .rules) (s .states) (s .above) ls xs
 
 -- the one while some are left, and then the other
 abbrev pub dueWhile : ℕ → Due → Due → Due
@@ -120,7 +125,7 @@ nextShape s xs = elim (s .due) [
 
 -- the next shape, or that the line is unfit
 unfoldable pub accepted : Shape → List ℕ → List ℕ → Accepted
-unfolding fitsShape nextShape
+unfolding fitsDue nextShape
 accepted s ls xs = elim (fitsShape s ls xs) [ true ↦ Next (nextShape s xs) | false ↦ Unfit ]
 
 -- the lengths with that of a rule line set at the rule's number; other lines leave them
@@ -139,5 +144,5 @@ lengthsWith s ls xs = elim (s .due) [
 
 -- the lengths after a line: an unfit line leaves them
 unfoldable pub lengthsAfter : Shape → List ℕ → List ℕ → List ℕ
-unfolding fitsShape lengthsWith
+unfolding fitsDue lengthsWith
 lengthsAfter s ls xs = elim (fitsShape s ls xs) [ true ↦ lengthsWith s ls xs | false ↦ ls ]

@@ -60,7 +60,7 @@ fn all_symbols(terms: usize, nonterms: usize, symbols: &[u16]) -> bool
     true
 }
 
-// Whether all are kinds or the end mark, and rise.
+// Whether all are kinds or the end mark, and rise: of a set that rises the last tells for all.
 fn ahead_fits(terms: usize, ahead: &[u16]) -> bool
     ensures { λ r. ⌜ r ≡ aheadFits terms (now (ahead .entry)) ⌝ }
 {
@@ -71,13 +71,13 @@ fn ahead_fits(terms: usize, ahead: &[u16]) -> bool
         if t < least {
             return false;
         }
-        if terms < t {
-            return false;
-        }
         least = t + 1;
         i += 1;
     }
-    true
+    if least == 0 {
+        return true;
+    }
+    least - 1 <= terms
 }
 
 // The length of a rule's right side; the accept rule's is 1.
@@ -156,7 +156,7 @@ fn fits_item(terms: usize, rights: &[u8], numbers: &[u16]) -> bool
 }
 
 // item=r d t1 .., after the first of the rules whose right sides have these lengths.
-pub(crate) fn fits_item_of(terms: usize, rules: usize, lengths: &[u8], numbers: &[u16]) -> bool
+pub fn fits_item_of(terms: usize, rules: usize, lengths: &[u8], numbers: &[u16]) -> bool
     ensures { λ r. ⌜ r ≡ fitsItem terms (take rules (now (lengths .entry))) (now (numbers .entry)) ⌝ }
 {
     if rules < lengths.len() {
@@ -167,13 +167,7 @@ pub(crate) fn fits_item_of(terms: usize, rules: usize, lengths: &[u8], numbers: 
 }
 
 // go=X s, with X at least above.
-pub(crate) fn fits_go(
-    terms: usize,
-    nonterms: usize,
-    states: usize,
-    above: usize,
-    numbers: &[u16],
-) -> bool
+pub fn fits_go(terms: usize, nonterms: usize, states: usize, above: usize, numbers: &[u16]) -> bool
     ensures { λ r. ⌜ r ≡ fitsGo terms nonterms states (leb above) (now (numbers .entry)) ⌝ }
 {
     if numbers.len() != 2 {

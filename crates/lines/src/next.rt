@@ -102,6 +102,25 @@ fn after_rule(s: Shape) -> Shape
     )
 }
 
+// The same shape where no line is due, field by field: a copy of the whole would also move the bytes that no field has.
+fn as_it_was(s: Shape) -> Shape
+    requires { ⌜ s .due ≡ Due.End ⌝ }
+    ensures { λ r. ⌜ r ≡ s ⌝ }
+{
+    Shape {
+        due: Due::End,
+        terms: s.terms,
+        nonterms: s.nonterms,
+        rules: s.rules,
+        rules_left: s.rules_left,
+        states: s.states,
+        states_left: s.states_left,
+        items_left: s.items_left,
+        gos_left: s.gos_left,
+        above: s.above,
+    }
+}
+
 // The shape with a line's numbers taken in.
 pub(crate) fn next(s: Shape, numbers: &[u16]) -> Shape
     requires { ⌜ (s .due ≡ Due.Rule → s .rules < maxRules) ⌝ }
@@ -126,6 +145,6 @@ pub(crate) fn next(s: Shape, numbers: &[u16]) -> Shape
         ),
         Due::Item => settled(s, less(s.items_left), s.gos_left, s.above),
         Due::Go => settled(s, s.items_left, less(s.gos_left), first + 1),
-        Due::End => s,
+        Due::End => as_it_was(s),
     }
 }

@@ -2,7 +2,7 @@
 pub mod Sheet
 pub mod Text
 pub mod Scan
-pub mod Fill
+pub mod Putting
 pub mod Reads
 pub mod Tail
 pub mod Quoted

@@ -6,10 +6,10 @@ use mathlib.Core.Option.{Option, none, some}
 use mathlib.Core.List.{List, [], _∷_, _++_}
 use lib.ListN.{length}
 use lib.Dec.{leb}
-use Rattle.lines.specs.Basics.{All}
 use Rattle.lines.specs.Lines.Fits.{all}
 use Rattle.sheet.specs.Sheet.{newline, equals, printNumbers, Short, inFront}
 use Rattle.sheet.specs.Text.{maxWord, Value, bad, has, keyed}
+pub use Rattle.sheet.specs.Text.{Words}
 use Rattle.sheet.specs.declared.TailLine.{TailLine}
 pub mod Exact
 pub mod Telling
@@ -28,10 +28,6 @@ tailText xs = tailKey ++ (equals ∷ printNumbers xs)
 -- the line tail=.. with its LF
 abbrev pub tailLine : List ℕ → List ℕ
 tailLine xs = tailText xs ++ (newline ∷ [])
-
--- every number is at most 65,535
-abbrev pub Words : List ℕ → Type 0
-Words xs = All (λ x. x ≤ maxWord) xs
 
 -- ---- what is told of it
 

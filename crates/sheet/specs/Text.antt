@@ -1,25 +1,26 @@
 -- What the text of one line says, from a place of the bytes on: a number, a key, the numbers of a value up to its LF.
-use Prim.Native.Nat.{ℕ, suc, _+_, _*_, _-_, _≤_, _<_}
+use Prim.Native.Nat.{ℕ, suc, _+_, _*_, _-_, _%_, _≤_, _<_}
 use mathlib.Core.Path.{_≡_}
 use mathlib.Core.Bool.{Bool, true, false}
 use mathlib.Core.Option.{Option, none, some}
-use mathlib.Core.List.{List, [], _∷_, _++_, List·Memᴰ as Mem}
-use lib.ListN.{length, take, drop}
+use mathlib.Core.List.{List, [], _∷_, _++_}
+use lib.ListN.{length, drop}
+use lib.Seq.{paste}
 use lib.Dec.{eqb, leb}
-use Rattle.lines.specs.Limits.{maxLine}
+use Rattle.lines.specs.Basics.{All}
 use Rattle.lines.specs.Lines.{Due, nothing, short, whole}
-use Rattle.sheet.specs.Sheet.{newline, equals, digit0, maxDigits, isDigit, valueFrom, numeral, words, eachNumeral, numerals, after, line, dueLine, cutLine}
+use Rattle.sheet.specs.Sheet.{newline, digit0, maxDigits, isDigit, valueFrom, numeral, words, eachNumeral, numerals, after, line, dueLine, cutLine}
 use Rattle.sheet.specs.declared.text.Numeral.{Numeral}
 use Rattle.sheet.specs.declared.text.Line.{Line}
 use Rattle.sheet.specs.declared.text.Opening.{Opening}
 pub mod Digits
 pub mod Values
 pub mod Keys
+pub mod Tallies
 pub mod Rooms
 pub mod Readings
 pub mod Keyed
 pub mod DueLines
-pub mod Places
 pub mod Rests
 
 -- the largest 16-bit number
@@ -85,11 +86,6 @@ unfoldable pub matched : Bool → List ℕ → Option (List ℕ)
 matched true rest = some rest
 matched false rest = none
 
--- what comes after the first equals sign
-unfoldable pub afterEquals : List ℕ → List ℕ
-afterEquals [] = []
-afterEquals (c ∷ cs) = elim (eqb c equals) [ true ↦ cs | false ↦ afterEquals cs ]
-
 -- the numbers up to the LF where each byte that is no digit ends a number, after digits that say v
 unfoldable pub restFrom : ℕ → List ℕ → Value
 unfolding prefixed
@@ -104,29 +100,48 @@ abbrev pub Behind : List ℕ → List ℕ → ℕ → Opening → Type 0
 Behind k s at (Opening.At p) = (at ≤ p) × (p ≤ length s) × (after k (drop at s) ≡ some (drop p s))
 Behind k s at Opening.No = after k (drop at s) ≡ none
 
--- where the value of the line that is due begins, from a place on; or no such line begins there
+-- where the value of the line that is due begins, from a place on, behind a key of two bytes at least; or no such line begins there
 abbrev pub Opened : Due → List ℕ → ℕ → Opening → Type 0
-Opened w s at (Opening.At p) = (at ≤ p) × (p ≤ length s) × (lineOf w (drop at s) ≡ valueOf (drop p s))
+Opened w s at (Opening.At p) = (at + 2 ≤ p) × (p ≤ length s) × (lineOf w (drop at s) ≡ valueOf (drop p s))
 Opened w s at Opening.No = lineOf w (drop at s) ≡ bad
 
--- ---- the numbers of a value, kept in a line's room
+-- ---- the numbers of a value, kept in an array
 
--- numbers that fit no line: too many, or one too large for 16 bits
-pub data TooBig (ns : List ℕ) : Type 0 where
-  long : maxLine < length ns → TooBig ns
-  wide : (x : ℕ) → Mem x ns → maxWord < x → TooBig ns
+-- numbers of 16 bits
+abbrev pub Words : List ℕ → Type 0
+Words xs = All (λ x. x ≤ maxWord) xs
 
--- the first n numbers of the room are those read so far; or n is above the count of the room, and those read so far fit no line
-pub data Holds (n : ℕ) (room acc : List ℕ) : Type 0 where
-  kept : n ≤ maxLine → length room ≡ maxLine → acc ≡ take n room → Holds n room acc
-  lost : n ≡ suc maxLine → TooBig acc → Holds n room acc
+-- the low 16 bits
+abbrev pub lowOf : ℕ → ℕ
+lowOf v = v % 65536
 
--- a line of n numbers, which ends at a place, unless they fit no line
-unfoldable pub countedTo : ℕ → ℕ → Line
-countedTo n e = elim (leb n maxLine) [ true ↦ Line.Whole n e | false ↦ Line.Unfit ]
+-- there is room for the numbers of all bytes from a place on: two bytes give one number at most
+abbrev pub Roomy : List ℕ → ℕ → List ℕ → ℕ → Type 0
+Roomy s at room w = (at ≤ length s) × (2 * w ≤ at) × (length s ≤ 2 * length room)
 
--- what is told of a value that begins at a place of the bytes, with the room as it is left
-abbrev pub Told : Value → List ℕ → ℕ → Line → List ℕ → Type 0
-Told v s at (Line.Whole n e) room = (n ≤ maxLine) × (at < e) × (e ≤ length s) × (length room ≡ maxLine) × (v ≡ has (take n room) (drop e s))
-Told v s at Line.Unfit room = (ns : List ℕ) × (rest : List ℕ) × (v ≡ has ns rest) × TooBig ns
-Told v s at Line.Bad room = v ≡ bad
+-- n numbers of 16 bits, from a place of the bytes up to another, were written from a place of the array on
+pub record Written (v : Value) (s : List ℕ) (at : ℕ) (before : List ℕ) (w n e : ℕ) (after : List ℕ) : Type 0 where
+  pub passed : at < e
+  pub inside : e ≤ length s
+  pub half : 2 * (w + n) ≤ e
+  pub numbers : List ℕ
+  pub value : v ≡ has numbers (drop e s)
+  pub counted : n ≡ length numbers
+  pub placed : after ≡ paste before w numbers n
+
+-- a number is above 16 bits
+pub record Wide (v : Value) : Type 0 where
+  pub numbers : List ℕ
+  pub rest : List ℕ
+  pub value : v ≡ has numbers rest
+  pub wide : Words numbers → ⊥
+
+-- a line of n numbers, the largest of which is top, which ends at a place; unless a number is above 16 bits
+unfoldable pub countedTo : ℕ → ℕ → ℕ → Line
+countedTo n top e = elim (leb top maxWord) [ true ↦ Line.Whole n e | false ↦ Line.Unfit ]
+
+-- what is told of a value that begins at a place of the bytes, and what became of the array
+abbrev pub Told : Value → List ℕ → ℕ → List ℕ → ℕ → Line → List ℕ → Type 0
+Told v s at before w (Line.Whole n e) after = Written v s at before w n e after
+Told v s at before w Line.Unfit after = Wide v
+Told v s at before w Line.Bad after = v ≡ bad

@@ -1,4 +1,7 @@
 // The reader of sheets: from bytes to a table's numbers, and from a tail line to a tail's tokens.
+ghost use Prim.Native.Nat.{_*_, _≤_};
+ghost use lib.ListN.{length};
+ghost use Rattle.lines.specs.Limits.{maxBytes};
 ghost use Rattle.sheet.specs.Reads.{ReadsInto, answerOf};
 ghost use Rattle.sheet.specs.Tail.{ReadsTail};
 use lines::Shape;
@@ -6,8 +9,9 @@ use scan::Scanned;
 use text::Opening;
 
 mod text; // text.rt: the text of one line: its key, its numbers
-mod scan; // scan.rt: the first pass, which takes every line in
-mod fill; // fill.rt: the second pass, which writes the numbers
+mod scan; // scan.rt: the pass over a sheet, which takes every line in and keeps its numbers
+mod copy; // copy.rt: numbers copied to a slice
+mod put; // put.rt: the numbers of a value written to a slice
 mod tail; // tail.rt: the pass over a tail line, which finds what it says
 
 // What the reader tells. A line is told by its number, from 0.
@@ -24,14 +28,21 @@ pub enum Answer {
     Short(usize),
 }
 
-// Reads a sheet: its table's numbers go to the front of the slice, whose rest stays. A refusal changes nothing.
-pub fn read(bytes: &[u8], out: &mut [u16]) -> Answer
+// Places for the numbers of a small sheet while it is read. Two bytes of a sheet give one number at most.
+const FEW: usize = 600;
+
+// The same for a sheet of middle size.
+const SOME: usize = 6000;
+
+// The same for any sheet.
+const MANY: usize = 30000;
+
+// Reads a sheet with an array that keeps its numbers until all lines are known to be in order.
+fn read_by(bytes: &[u8], kept: &mut [u16], out: &mut [u16]) -> Answer
+    requires { ⌜ (length (now bytes) ≤ maxBytes) × (length (now bytes) ≤ 2 * length (now kept)) ⌝ }
     ensures { λ r. ⌜ ReadsInto (now (bytes .entry)) (now (out .entry)) (answerOf r) (now (out .exit)) ⌝ }
 {
-    if Shape::MAX_BYTES < bytes.len() {
-        return Answer::TooLong;
-    }
-    let found = scan::scan(bytes);
+    let found = scan::scan(bytes, kept);
     match found {
         Scanned::Bad(line) => Answer::Form(line),
         Scanned::Unfit(line) => Answer::Range(line),
@@ -39,10 +50,30 @@ pub fn read(bytes: &[u8], out: &mut [u16]) -> Answer
             if out.len() < count {
                 return Answer::Short(count);
             }
-            fill::fill(bytes, out);
+            copy::copy(&kept[..count], out);
             Answer::Fit(count)
         }
     }
+}
+
+// Reads a sheet: its table's numbers go to the front of the slice, whose rest stays. A refusal changes nothing.
+pub fn read(bytes: &[u8], out: &mut [u16]) -> Answer
+    ensures { λ r. ⌜ ReadsInto (now (bytes .entry)) (now (out .entry)) (answerOf r) (now (out .exit)) ⌝ }
+{
+    let length = bytes.len();
+    if Shape::MAX_BYTES < length {
+        return Answer::TooLong;
+    }
+    if length <= 2 * FEW {
+        let mut kept = [0u16; FEW];
+        return read_by(bytes, &mut kept, out);
+    }
+    if length <= 2 * SOME {
+        let mut kept = [0u16; SOME];
+        return read_by(bytes, &mut kept, out);
+    }
+    let mut kept = [0u16; MANY];
+    read_by(bytes, &mut kept, out)
 }
 
 // What is told of a tail line.
@@ -75,6 +106,6 @@ pub fn read_tail(line: &[u8], out: &mut [u16]) -> TailLine
     if count == 0 {
         return told;
     }
-    fill::put_value(line, at, out, 0);
+    put::put_value(line, at, out, 0);
     TailLine::Tokens(count)
 }

@@ -1,24 +1,18 @@
 // The pass over the value of a tail line: it finds how many tokens there are, or what is wrong. Nothing is written.
 ghost use mathlib.Core.Path.{_≡_};
 ghost use mathlib.Core.List.{List};
-ghost use Prim.Native.Nat.{ℕ, _≤_, max};
+ghost use Prim.Native.Nat.{ℕ, _≤_};
 ghost use lib.ListN.{length, drop};
 ghost use Rattle.sheet.specs.Text.{has, valueOf};
 ghost use Rattle.sheet.specs.Tail.{alone, toldOf};
-ghost use Rattle.sheet.specs.Tail.Telling.{Tallied};
+ghost use Rattle.sheet.specs.Text.Tallies.{Tallied};
 use crate::TailLine;
 use crate::text::LF;
 use crate::text::MAX_WORD;
 use crate::text::Numeral;
 use crate::text::SPACE;
+use crate::text::larger;
 use crate::text::number;
-
-// The larger of two numbers.
-fn larger(a: u32, b: u32) -> u32
-    ensures { λ r. ⌜ r ≡ max a b ⌝ }
-{
-    if a < b { b } else { a }
-}
 
 // What is told of n numbers, the largest of which is top, whose LF stands before a place.
 fn ended(s: &[u8], e: usize, n: usize, top: u32) -> TailLine

@@ -1,14 +1,11 @@
 // The text of one line: its key, and the numbers of its value up to the LF.
 ghost use mathlib.Core.Path.{_≡_};
-ghost use mathlib.Core.List.{List, _∷_, [], _++_};
-ghost use Prim.Native.Nat.{ℕ, _+_, _≤_};
+ghost use Prim.Native.Nat.{_+_, _≤_, max};
 ghost use lib.ListN.{length, drop};
 ghost use Rattle.sheet.specs.Sheet.{digit0, after};
-ghost use Rattle.lines.specs.Limits.{maxLine};
 ghost use Rattle.lines.specs.Shape.Shaped.{dueOf};
-ghost use Rattle.sheet.specs.Text.{digitsOf, numberAt, matched, Counted, Behind, Opened, Holds, valueOf, lineOf, Told, countedTo};
+ghost use Rattle.sheet.specs.Text.{digitsOf, numberAt, matched, Counted, Behind, Opened, Roomy, lowOf, valueOf, lineOf, Told, countedTo};
 use lines::Due;
-use lines::Shape;
 
 pub(crate) const LF: u8 = b'\n';
 
@@ -36,7 +33,7 @@ pub(crate) enum Numeral {
     Bad,
 }
 
-// The numbers of a line: how many, in their form, and the place after the line's LF; in their form but such as fit no line; not in their form.
+// The numbers of a line: how many, in their form, and the place after the line's LF; in their form, but one is above 16 bits; not in their form.
 pub(crate) enum Line {
     Whole(usize, usize),
     Unfit,
@@ -157,24 +154,35 @@ fn open_due(s: &[u8], at: usize, due: Due) -> Opening
     }
 }
 
-// Keeps one number more of a line: how many there are then, or more than a line has if they fit no line.
-fn keep(nums: &mut [u16; Shape::MAX_LINE], n: usize, v: u32) -> usize
-    ensures { λ r. ⌜ ((acc : List ℕ) → Holds n (now (nums .entry)) acc → Holds r (now (nums .exit)) (acc ++ (v ∷ []))) ⌝ }
+// The larger of two numbers.
+pub(crate) fn larger(a: u32, b: u32) -> u32
+    ensures { λ r. ⌜ r ≡ max a b ⌝ }
 {
-    if Shape::MAX_LINE <= n {
-        return Shape::MAX_LINE + 1;
-    }
-    if MAX_WORD < v {
-        return Shape::MAX_LINE + 1;
-    }
-    nums[n] = v as u16;
-    n + 1
+    if a < b { b } else { a }
 }
 
-// The numbers of a value, from a place up to the LF.
-fn numbers(s: &[u8], at: usize, nums: &mut [u16; Shape::MAX_LINE]) -> Line
-    requires { ⌜ (at ≤ length (now s)) × (length (now nums) ≡ maxLine) ⌝ }
-    ensures { λ r. ⌜ Told (valueOf (drop at (now (s .entry)))) (now (s .entry)) at r (now (nums .exit)) ⌝ }
+// The low 16 bits of a number: the number itself, where it has no more.
+fn low(v: u32) -> u16
+    ensures { λ r. ⌜ r ≡ lowOf v ⌝ }
+{
+    (v % (MAX_WORD + 1)) as u16
+}
+
+// A line of n numbers, the largest of which is top, which ends at a place; unless a number fits no line.
+fn counted(n: usize, top: u32, e: usize) -> Line
+    ensures { λ r. ⌜ r ≡ countedTo n top e ⌝ }
+{
+    if top <= MAX_WORD {
+        Line::Whole(n, e)
+    } else {
+        Line::Unfit
+    }
+}
+
+// The numbers of a value, from a place up to the LF. They are kept from a place of the array on.
+fn numbers(s: &[u8], at: usize, kept: &mut [u16], w: usize) -> Line
+    requires { ⌜ Roomy (now s) at (now kept) w ⌝ }
+    ensures { λ r. ⌜ Told (valueOf (drop at (now (s .entry)))) (now (s .entry)) at (now (kept .entry)) w r (now (kept .exit)) ⌝ }
 {
     if s.len() <= at {
         return Line::Bad;
@@ -184,6 +192,7 @@ fn numbers(s: &[u8], at: usize, nums: &mut [u16; Shape::MAX_LINE]) -> Line
     }
     let mut i = at;
     let mut n: usize = 0;
+    let mut top: u32 = 0;
     while i < s.len() {
         let got = number(s, i);
         match got {
@@ -192,10 +201,12 @@ fn numbers(s: &[u8], at: usize, nums: &mut [u16; Shape::MAX_LINE]) -> Line
                 if s.len() <= e {
                     return Line::Bad;
                 }
-                n = keep(nums, n, v);
+                kept[w + n] = low(v);
+                n += 1;
+                top = larger(top, v);
                 let c = s[e];
                 if c == LF {
-                    return counted(n, e + 1);
+                    return counted(n, top, e + 1);
                 }
                 if c != SPACE {
                     return Line::Bad;
@@ -207,25 +218,14 @@ fn numbers(s: &[u8], at: usize, nums: &mut [u16; Shape::MAX_LINE]) -> Line
     Line::Bad
 }
 
-// A line of n numbers, which ends at a place, unless they fit no line.
-fn counted(n: usize, e: usize) -> Line
-    ensures { λ r. ⌜ r ≡ countedTo n e ⌝ }
-{
-    if n <= Shape::MAX_LINE {
-        Line::Whole(n, e)
-    } else {
-        Line::Unfit
-    }
-}
-
-// The numbers of the line that is due, from a place up to the LF.
-pub(crate) fn due_line(s: &[u8], at: usize, due: Due, nums: &mut [u16; Shape::MAX_LINE]) -> Line
-    requires { ⌜ (at ≤ length (now s)) × (length (now nums) ≡ maxLine) ⌝ }
-    ensures { λ r. ⌜ Told (lineOf (dueOf due) (drop at (now (s .entry)))) (now (s .entry)) at r (now (nums .exit)) ⌝ }
+// The numbers of the line that is due, from a place up to the LF. They are kept behind a place of the array, which is for their count.
+pub(crate) fn due_line(s: &[u8], at: usize, due: Due, kept: &mut [u16], w: usize) -> Line
+    requires { ⌜ Roomy (now s) at (now kept) w ⌝ }
+    ensures { λ r. ⌜ Told (lineOf (dueOf due) (drop at (now (s .entry)))) (now (s .entry)) at (now (kept .entry)) (w + 1) r (now (kept .exit)) ⌝ }
 {
     let opening = open_due(s, at, due);
     match opening {
         Opening::No => Line::Bad,
-        Opening::At(p) => numbers(s, p, nums),
+        Opening::At(p) => numbers(s, p, kept, w + 1),
     }
 }

@@ -1,54 +1,6 @@
-// What the input says: numbers, names and the sheets that parts make.
-ghost use Prim.Native.Nat.{_≤_};
-
-const MAX_NUMBER: usize = 100000;
-
-// A number, and the place after it.
-pub(crate) struct Found {
-    pub(crate) value: usize,
-    pub(crate) next: usize,
-}
-
-// The number that stands at a place, up to a large one, and the place after the byte that ends it.
-pub(crate) fn field(s: &[u8], at: usize) -> Found {
-    let mut value = 0;
-    let mut i = at;
-    while i < s.len() {
-        let c = s[i];
-        i += 1;
-        if c < b'0' {
-            return Found { value, next: i };
-        }
-        if b'9' < c {
-            return Found { value, next: i };
-        }
-        if MAX_NUMBER < value {
-            return Found { value, next: i };
-        }
-        value = 10 * value + digit(c);
-    }
-    Found { value, next: i }
-}
-
-// What a digit says.
-fn digit(c: u8) -> usize
-    requires { ⌜ 48 ≤ c ⌝ }
-    ensures { λ r. ⌜ r ≤ 255 ⌝ }
-{
-    (c - b'0') as usize
-}
-
-// The place of the LF from a place on, or the end.
-pub(crate) fn line_end(s: &[u8], at: usize) -> usize {
-    let mut i = at;
-    while i < s.len() {
-        if s[i] == b'\n' {
-            return i;
-        }
-        i += 1;
-    }
-    i
-}
+// The sheets that the parts of an input make.
+use runs::Found;
+use runs::field;
 
 // Puts the bytes from a place on into the sheet, behind what is there, as far as both reach, and answers how many are there then.
 fn put(s: &[u8], from: usize, count: usize, sheet: &mut [u8], there: usize) -> usize {

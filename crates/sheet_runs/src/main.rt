@@ -6,9 +6,12 @@
 // For each case one line is printed: the name, the answer's number and value, and a sum over the whole slice as the reader left it.
 use libc::STDIN_FILENO;
 use libc::STDOUT_FILENO;
+use runs::field;
+use runs::show;
+use runs::show_two;
 use sheet::Answer;
 
-mod cases; // cases.rt: what the input says: numbers, names, sheets
+mod cases; // cases.rt: the sheets that the parts of an input make
 mod slices; // slices.rt: a slice before and after
 
 const MAX_CASES: usize = 1000;
@@ -19,22 +22,14 @@ const MAX_SHEET: usize = 60001;
 
 const MAX_PLACES: usize = 30000;
 
-// Prints the number and the value of an answer.
-fn show(number: u64, value: usize) {
-    io::write_all(STDOUT_FILENO, b" ");
-    io::print_decimal(STDOUT_FILENO, number);
-    io::write_all(STDOUT_FILENO, b" ");
-    io::print_decimal(STDOUT_FILENO, value as u64);
-}
-
 // Prints an answer by document 01's number and value.
 fn show_answer(answer: Answer) {
     match answer {
-        Answer::Fit(count) => show(0, count),
-        Answer::TooLong => show(10, 0),
-        Answer::Form(line) => show(11, line),
-        Answer::Range(line) => show(12, line),
-        Answer::Short(needed) => show(13, needed),
+        Answer::Fit(count) => show_two(0, count),
+        Answer::TooLong => show_two(10, 0),
+        Answer::Form(line) => show_two(11, line),
+        Answer::Range(line) => show_two(12, line),
+        Answer::Short(needed) => show_two(13, needed),
     }
 }
 
@@ -43,17 +38,19 @@ fn run_case(sheet: &[u8], out: &mut [u16]) {
     slices::mark(out);
     let answer = sheet::read(sheet, out);
     show_answer(answer);
-    io::write_all(STDOUT_FILENO, b" ");
-    io::print_decimal(STDOUT_FILENO, slices::sum(out));
+    show(slices::sum(out));
     io::write_all(STDOUT_FILENO, b"\n");
 }
 
 // Runs the case that begins at a place, and answers the place after it.
 fn case_at(input: &[u8], at: usize, sheet: &mut [u8], out: &mut [u16]) -> usize {
-    let places = cases::field(input, at);
-    let parts = cases::field(input, places.next);
+    let places = field(input, at);
+    let parts = field(input, places.next);
     let name = parts.next;
-    let end = cases::line_end(input, name);
+    if input.len() < name {
+        return input.len();
+    }
+    let end = bytes::scan::find(input, name, input.len(), b'\n');
     if end <= name {
         return input.len();
     }

@@ -22,7 +22,7 @@ use Rattle.table.specs.Members.{mem-at}
 use Rattle.table.specs.Sets.{SetOf}
 use Rattle.table.specs.Places.{Held, grammarIn}
 use Rattle.table.specs.Places.Step.{held-formed, held-nonterms}
-use Rattle.table.specs.Items.Dot.{afterDot, no-mark, next-of}
+use Rattle.table.specs.Items.Dot.{no-mark, next-of}
 use Rattle.table.specs.Notions.{nonterm}
 use Rattle.table.specs.Firsts.{firstSet, Firsts}
 use Rattle.table.specs.Condition4.{Asks}
@@ -138,10 +138,6 @@ module _ (g : Grammar) (i : Item) {b : ℕ} {more : List ℕ} (e : rest g i ≡ 
 pub next-symbol : (g : Grammar) (i : Item) {r d x : ℕ} → r ≡ i .rule → d ≡ i .dot → x ≡ getD (ruleAt g r .right) (d + 1) (g .terms) →
     getD (ruleAt g (i .rule) .right) (i .dot + 1) (g .terms) ≡ x
 next-symbol g i p q e = sym (e ∙ λ j. getD (ruleAt g (p j) .right) (q j + 1) (g .terms))
-
--- the symbol after the dot
-pub dot-symbol : (g : Grammar) (i : Item) {r d x : ℕ} → r ≡ i .rule → d ≡ i .dot → x ≡ getD (ruleAt g r .right) d (g .terms) → afterDot g i ≡ x
-dot-symbol g i p q e = sym (e ∙ λ j. getD (ruleAt g (p j) .right) (q j) (g .terms))
 
 -- a symbol of a right side, or the end mark past its end, is no higher than the last nonterminal
 symbol-in : {g : Grammar} → WellFormed g → (r j : ℕ) → getD (ruleAt g r .right) j (g .terms) ≤ g .terms + g .nonterms

@@ -1,19 +1,24 @@
 -- Condition 5 holds exactly where every item moves onward and every go line is led to; and what the tests of an item tell.
 use Prim.Native.Nat.{ℕ, suc, _+_, _-_, _≤_, _<_}
 use native.Mathlib.Omega.{arith}
-use mathlib.Core.Path.{_≡_, sym, ap, _∙_, subst}
+use native.Mathlib.Decide.{ℕ-discrete}
+use mathlib.Core.Path.{_≡_, refl, sym, ap, _∙_, subst}
 use mathlib.Core.Bool.{Bool}
-use mathlib.Core.List.{nil≢cons}
+use mathlib.Core.List.{List, nil≢cons}
 use mathlib.Core.List.{List·Memᴰ as Mem}
+use lib.Dec.{eqb}
 use lib.ListN.{length, getD}
 use Rattle.theory.specs.Grammar.{Grammar}
-use Rattle.theory.specs.Table.{Table, Item, Go, stateAt, InState, After, Complete, ruleAt, Fits, Condition2, Condition5}
+use Rattle.theory.specs.Table.{Table, Item, Go, stateAt, InState, After, Complete, ruleAt, Fits, Condition1, Condition2, Condition5}
+use Rattle.lines.specs.Limits.{maxRight}
 use Rattle.lines.specs.Ranges.{ItemIn}
 use Rattle.table.specs.Members.{mem-at}
-use Rattle.table.specs.Tests.Tell.{Tells, tells-as}
+use Rattle.table.specs.Tests.Tell.{Tells, tells-as, tells-eq}
 use Rattle.table.specs.Items.{Agrees}
 use Rattle.table.specs.Items.Dot.{afterDot, of-after}
-use Rattle.table.specs.Condition5.{Moved, AheadIn, Onward, Wanted, Back, Led}
+use Rattle.table.specs.Condition5.{Moved, AheadIn, Onward, Back, Led, MarksTell}
+use Rattle.table.specs.Spots.{coreOf, CoreIn}
+use Rattle.table.proofs.Spotted.{same-core}
 use Rattle.table.proofs.Distinct.{one-item, one-go}
 
 module _ (t : Table) (s : ℕ) where
@@ -24,18 +29,29 @@ module _ (t : Table) (s : ℕ) where
       let (j, n, r, d, c) = C .moves l k .onward i m (subst (λ y. After (t .grammar) i y) (sym e) a) in
       (l, k, e, (j, n, record { same-rule = r; next-dot = d; contains = c }))
 
-  -- what condition 5 says of a go line
-  pub moves-led : Condition5 t s → (l : Go) → Mem l (stateAt t s .gos) → Led t s l
-  moves-led C l k = (
-    C .moves l k .asked,
+  -- what condition 5 says of a go line: where it leads to, an item stands with its dot moved on, which is not so in state 0
+  pub moves-led : Condition1 t 0 → Condition5 t s → (l : Go) → Mem l (stateAt t s .gos) → Led t s l
+  moves-led K C l k = (
+    above (ℕ-discrete (l .to) 0),
     λ j n d. let (i, m, a, r, e, c) = C .moves l k .back j n d in (i, m, a, record { same-rule = r; next-dot = e; contains = c }),
   )
+    where
+      above : Dec (l .to ≡ 0) → suc 0 ≤ l .to
+      above (yes z) =
+          let (i, m, a) = C .moves l k .asked in
+          let (j, n, r, d, c) = C .moves l k .onward i m a in
+          let h = K .dots refl j (subst (λ u. InState t u j) z n) in
+          absurd (omega arith)
+      above (no z) = omega arith
 
   -- both say all of it
-  pub onward-led : Fits t → ((i : Item) → InState t s i → Onward t s i) → ((l : Go) → Mem l (stateAt t s .gos) → Led t s l) → Condition5 t s
-  onward-led F f h = record {
+  pub onward-led : Fits t → ((l : Go) → Mem l (stateAt t s .gos) → Condition1 t (l .to)) → ((i : Item) → InState t s i → Onward t s i) → ((l : Go) → Mem l (stateAt t s .gos) → Led t s l) → Condition5 t s
+  onward-led F K f h = record {
     moves = λ l k. record {
-      asked = h l k .0;
+      asked =
+          let (j, n, d) = K l k .kernel (λ z. let b = h l k .0 in omega arith) in
+          let (i, m, a, v) = h l k .1 j n d in
+          (i, m, a);
       onward = λ i m a. on l k (f i m (l .on) a);
       back = λ j n d. let (i, m, a, v) = h l k .1 j n d in (i, m, a, v .same-rule, v .next-dot, v .contains);
     };
@@ -70,43 +86,29 @@ module _ (t : Table) (s : ℕ) (i : Item) where
   pub onward-complete : Complete (t .grammar) i → Onward t s i
   onward-complete c x (more, e) = absurd (nil≢cons (sym c ∙ e))
 
-  -- an item that has no go line does not move on
-  pub onward-lineless : (x : ℕ) → After (t .grammar) i x → ((l : Go) → Mem l (stateAt t s .gos) → l .on ≡ x → ⊥) → Onward t s i → ⊥
-  onward-lineless x a none h = let (l, m, e, r) = h x a in none l m e
-
-  -- all that is in the item's set is in that of an item of the state with its rule and the next dot
-  abbrev pub AllOn : ℕ → Type 0
-  AllOn to = (a : ℕ) → Mem a (i .ahead) → (j : Item) × InState t to j × Agrees (i .rule) (i .dot + 1) j × Mem a (j .ahead)
-
-  -- with the target of the go line this tells that the item moves onward
-  pub onward-tells : Fits t → 1 ≤ length (i .ahead) → (x to : ℕ) → After (t .grammar) i x →
-      (l : Go) × Mem l (stateAt t s .gos) × (l .on ≡ x) × (l .to ≡ to) → Condition2 t to → {b : Bool} → Tells b (AllOn to) → Tells b (Onward t s i)
-  onward-tells F n x to A (l, m, e, q) D = tells-as on from
+  -- one that is not moves on exactly if it is met in the target of a go line, as the marks tell
+  pub onward-tells : InState t s i → (x : ℕ) → After (t .grammar) i x → Condition2 t s → CoreIn (i .rule) (i .dot) →
+      ((l : Go) → Mem l (stateAt t s .gos) → (j : Item) → InState t (l .to) j → j .dot ≤ maxRight) → ((l : Go) → Mem l (stateAt t s .gos) → Led t s l) →
+      {marks : List ℕ} → MarksTell t s marks → {m : ℕ} → m ≡ getD marks (coreOf (i .rule) (i .dot)) 0 → Tells (eqb m (s + 1)) (Onward t s i)
+  onward-tells q x A D (r, d) short led {marks} M {m} e = tells-as on from (tells-eq m (s + 1))
     where
-      on : AllOn to → Onward t s i
-      on f y B = (l, m, e ∙ same, put (f (getD (i .ahead) 0 0) (mem-at (i .ahead) 0 0 n)))
-        where
-          same : x ≡ y
-          same = sym (of-after (t .grammar) i x (A .0) (A .1)) ∙ of-after (t .grammar) i y (B .0) (B .1)
+      on : m ≡ s + 1 → Onward t s i
+      on h y B =
+          let (l, k, (j, n, (a, c))) = M .told (coreOf (i .rule) (i .dot)) (sym e ∙ (h ∙ omega arith)) in
+          let b = short l k j n in
+          let (u, v) = same-core {rule = i .rule} {dot = i .dot} d (omega arith) c in
+          let (z, w, Z, moved) = led l k .1 j n a in
+          let g = moved .next-dot in
+          let o : z ≡ i = one-item t s D z i w q (sym (moved .same-rule) ∙ u) (omega arith) in
+          let on-is : l .on ≡ y = sym (of-after (t .grammar) z (l .on) (Z .0) (Z .1)) ∙ (ap (afterDot (t .grammar)) o ∙ of-after (t .grammar) i y (B .0) (B .1)) in
+          (l, k, on-is, (j, n, subst (λ w. Moved w j) o moved))
 
-          put : (j : Item) × InState t to j × Agrees (i .rule) (i .dot + 1) j × Mem (getD (i .ahead) 0 0) (j .ahead) →
-              (j : Item) × InState t (l .to) j × Moved i j
-          put (j, k, (r, d), u) = (
-            j,
-            subst (λ z. InState t z j) (sym q) k,
-            record {
-              same-rule = r;
-              next-dot = d ∙ omega arith;
-              contains = λ a v. let (z, w, (r′, d′), o) = f a v in
-                  subst (λ y. Mem a (y .ahead)) (one-item t to D z j w k (r′ ∙ sym r) (d′ ∙ sym d)) o;
-            },
-          )
-
-      from : Onward t s i → AllOn to
-      from h a v =
-          let (k, o, f, (j, u, w)) = h x A in
-          let g : k .to ≡ to = ap (λ (z : Go). z .to) (one-go t s F k l o m (f ∙ sym e)) ∙ q in
-          (j, subst (λ z. InState t z j) g u, (w .same-rule, w .next-dot ∙ omega arith), w .contains a v)
+      from : Onward t s i → m ≡ s + 1
+      from h =
+          let (l, k, f, (j, n, v)) = h x A in
+          let g = v .next-dot in
+          let c : coreOf (j .rule) (j .dot - 1) ≡ coreOf (i .rule) (i .dot) = let u = v .same-rule in omega arith in
+          e ∙ (M .shown (coreOf (i .rule) (i .dot)) (omega arith) (l, k, (j, n, (omega arith, c))) ∙ omega arith)
 
 -- ---- back
 
@@ -151,12 +153,12 @@ module _ (t : Table) (s x : ℕ) (j : Item) where
 -- ---- a go line
 
 module _ (t : Table) (s : ℕ) {l : Go} {x to : ℕ} (e : x ≡ l .on) (f : to ≡ l .to) where
-  -- a go line that no item asks for is not led to
-  pub led-unwanted : (Wanted t s x → ⊥) → Led t s l → ⊥
-  led-unwanted n (w, b) = n (subst (λ y. Wanted t s y) (sym e) w)
+  -- one that leads to state 0 is not led so
+  pub led-zero : to ≡ 0 → Led t s l → ⊥
+  led-zero z (a, b) = omega arith
 
-  -- of one that is asked for the items of the target tell
-  pub led-tells : Wanted t s x → {b : Bool} → Tells b ((j : Item) → InState t to j → Back t s x j) → Tells b (Led t s l)
-  led-tells w = tells-as
-      (λ h. (subst (λ y. Wanted t s y) e w, λ j m. subst (λ y. Back t s y j) e (h j (subst (λ z. InState t z j) (sym f) m))))
+  -- of another one the items of the target tell
+  pub led-tells : (to ≡ 0 → ⊥) → {b : Bool} → Tells b ((j : Item) → InState t to j → Back t s x j) → Tells b (Led t s l)
+  led-tells n = tells-as
+      (λ h. (omega arith, λ j m. subst (λ y. Back t s y j) e (h j (subst (λ z. InState t z j) (sym f) m))))
       (λ (v, h) j m. subst (λ y. Back t s y j) (sym e) (h j (subst (λ z. InState t z j) f m)))

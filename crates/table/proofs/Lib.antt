@@ -7,8 +7,10 @@ pub mod Drafted
 pub mod Walked
 pub mod Order
 pub mod SetOf
+pub mod SetsNoted
 pub mod Kernel
 pub mod Twice
+pub mod Spotted
 pub mod Called
 pub mod Clash
 pub mod Led
@@ -19,6 +21,7 @@ pub mod Rows
 pub mod Noted
 pub mod Asked
 pub mod Condition4
+pub mod Marks
 pub mod Condition5
 pub mod Answered
 pub mod Theorems

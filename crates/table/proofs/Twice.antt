@@ -1,30 +1,19 @@
 -- Condition 2 by places: each item differs in rule or dot from those before it.
-use Prim.Native.Nat.{ℕ, suc, _≤_, _<_}
+use Prim.Native.Nat.{ℕ, suc, _<_}
 use native.Mathlib.Omega.{arith}
-use mathlib.Core.Path.{_≡_, sym, ap, _∙_}
+use mathlib.Core.Path.{_≡_, ap, _∙_}
 use mathlib.Core.List.{List}
 use mathlib.Core.List.{List·Memᴰ as Mem}
 use lib.ListN.{length, getD, drop}
 use lib.Seq.{split-at}
 use Rattle.theory.specs.Table.{Item, Table, stateAt, Condition2}
-use Rattle.table.specs.declared.items.Spot.{Spot}
-use Rattle.table.specs.Items.{Agrees, FirstItem}
+use Rattle.table.specs.Items.{Agrees}
 use Rattle.table.specs.Places.{noItem}
 use Rattle.table.proofs.Order.{front-at, front-place, by-place}
 
 -- the k-th item differs in rule or dot from each item before it
 abbrev pub Lone : List Item → ℕ → Type 0
 Lone is k = (j : ℕ) → j < k → Agrees (getD is k noItem .rule) (getD is k noItem .dot) (getD is j noItem) → ⊥
-
-module _ {is : List Item} {k p rule dot : ℕ} {f : Spot} (found : FirstItem is k p rule dot f)
-    (r : rule ≡ getD is k noItem .rule) (d : dot ≡ getD is k noItem .dot) where
-  -- where none is found before it, it does
-  pub lone-here : k ≤ f .index → Lone is k
-  lone-here h j l (a, b) = found .before j (omega arith) (a ∙ sym r, b ∙ sym d)
-
-  -- where one is found, it does not
-  pub twice-here : f .index < k → Lone is k → ⊥
-  twice-here h lone = let (a, b) = found .this h in lone (f .index) h (a ∙ r, b ∙ d)
 
 module _ (t : Table) (s : ℕ) where
   -- where each does, the state keeps condition 2

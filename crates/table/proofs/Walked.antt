@@ -270,10 +270,11 @@ module _ {ns : List ℕ} {p line : ℕ} {s : Shape} {lengths ra sa : List ℕ} (
           at-end line (h .draft) (ap isEnd (due-is End w) ∙ end-is)))
 
 -- the same by equal parts
-pub walk-is : {ns : List ℕ} {p q line : ℕ} {s : Shape} {ls ls′ ra ra′ sa sa′ : List ℕ} → Walked ns p line s ls ra sa → p ≡ q → ls ≡ ls′ → ra ≡ ra′ → sa ≡ sa′ →
-    Walked ns q line s ls′ ra′ sa′
-walk-is {ns} {p} {q} {line} {s} {ls} {ls′} {ra} {ra′} {sa} {sa′} h a b c d =
-    subst (Walked ns q line s ls′ ra′) d (subst (λ x. Walked ns q line s ls′ x sa) c (subst (λ x. Walked ns q line s x ra sa) b (subst (λ x. Walked ns x line s ls ra sa) a h)))
+pub walk-is : {ns : List ℕ} {p q line : ℕ} {s s′ : Shape} {ls ls′ ra ra′ sa sa′ : List ℕ} → Walked ns p line s ls ra sa → p ≡ q → s ≡ s′ → ls ≡ ls′ → ra ≡ ra′ →
+    sa ≡ sa′ → Walked ns q line s′ ls′ ra′ sa′
+walk-is {ns} {p} {q} {line} {s} {s′} {ls} {ls′} {ra} {ra′} {sa} {sa′} h a e b c d =
+    subst (Walked ns q line s′ ls′ ra′) d (subst (λ x. Walked ns q line s′ ls′ x sa) c (subst (λ x. Walked ns q line s′ x ra sa) b
+    (subst (λ x. Walked ns q line x ls ra sa) e (subst (λ x. Walked ns x line s ls ra sa) a h))))
 
 -- the numbers of a line that goes on after its count
 pub part-is : (ns : List ℕ) (p n : ℕ) → n ≡ getD ns p 0 → take (p + 1 + n - (p + 1)) (drop (p + 1) ns) ≡ take (getD ns p 0) (drop (suc p) ns)

@@ -7,8 +7,7 @@ use Rattle.theory.specs.Table.{Item, Go, stateAt, count}
 use Rattle.lines.specs.Limits.{maxTerms}
 use Rattle.lines.specs.Ranges.{InRange, ItemIn, GoIn}
 use Rattle.table.specs.declared.Sizes.{Sizes}
-use Rattle.table.specs.declared.items.Spot.{Spot}
-use Rattle.table.specs.Places.{ItemAt, StatesAt, itemPlace, gosPlace, noItem, tableIn, grammarIn}
+use Rattle.table.specs.Places.{ItemAt, StatesAt, itemPlace, gosPlace, tableIn, grammarIn}
 pub mod Held
 pub mod Dot
 
@@ -64,15 +63,8 @@ pub record AtGo (ns places : List ℕ) (s n k at : ℕ) : Type 0 where
   pub passed : k ≤ n
   pub stands : at ≡ gosPlace (getD places s 0) (stateAt (tableIn ns) s) + 3 * k
 
--- ---- looking an item up
+-- ---- one item
 
 -- the item has this rule and this dot
 abbrev pub Agrees : ℕ → ℕ → Item → Type 0
 Agrees rule dot i = (i .rule ≡ rule) × (i .dot ≡ dot)
-
--- the first of the first n items, whose lines stand from p on, that has this rule and this dot; where none has, what comes after those n
-pub record FirstItem (is : List Item) (n p rule dot : ℕ) (f : Spot) : Type 0 where
-  pub inside : f .index ≤ n
-  pub stands : f .place ≡ itemPlace p is (f .index)
-  pub this : f .index < n → Agrees rule dot (getD is (f .index) noItem)
-  pub before : (j : ℕ) → j < f .index → Agrees rule dot (getD is j noItem) → ⊥

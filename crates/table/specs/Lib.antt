@@ -11,6 +11,8 @@ pub mod Firsts
 pub mod Faults
 pub mod Lined
 pub mod Items
+pub mod Aheads
+pub mod Spots
 pub mod Conditions
 pub mod Condition4
 pub mod Condition5

@@ -1,5 +1,5 @@
 -- The look-ups of a table: for each token and state the rule by which the state reduces, for each symbol and state the go target, and for each
--- rule its length and its left side. An entry is 0 for none, else one more than what is meant.
+-- rule its length and its left side. For a rule and for a target an entry is 0 for none, else one more than what is meant.
 use Prim.Native.Nat.{ℕ, suc, _+_, _*_, _≤_, _<_}
 use mathlib.Core.Path.{_≡_}
 use mathlib.Core.Bool.{Bool, true, false}

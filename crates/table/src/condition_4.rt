@@ -7,6 +7,7 @@ ghost use Rattle.theory.specs.Table.{ruleAt, stateAt, After, Condition4};
 ghost use Rattle.lines.specs.Limits.{maxNonterms, maxRules};
 ghost use Rattle.table.specs.Places.{Held, tableIn, grammarIn};
 ghost use Rattle.table.specs.Items.{itemIn, ItemHeld, StatesHeld};
+ghost use Rattle.table.specs.Aheads.{SetNoted, AllNoted};
 ghost use Rattle.table.specs.Sets.{In, SetOf};
 ghost use Rattle.table.specs.Firsts.{Firsts};
 ghost use Rattle.table.specs.Tests.Tell.{Tells};
@@ -14,9 +15,9 @@ ghost use Rattle.table.specs.Checks.{KeptBefore};
 ghost use Rattle.table.specs.Conditions.{LowestBreaker};
 ghost use Rattle.table.specs.Condition4.{Asks, Asked, Given, NotedAsked, NotedGiven};
 use crate::Sizes;
+use crate::aheads::set_at;
 use crate::firsts::begins;
 use crate::items::after_dot;
-use crate::items::ahead_set;
 use crate::items::first_item;
 use crate::items::item_count;
 use crate::items::item_dot;
@@ -32,17 +33,18 @@ fn asked_set(
     table: &[u16],
     rule_at: &[u16; Shape::MAX_RULES],
     sizes: Sizes,
+    sets: &[u64],
     firsts: &[u64; Shape::MAX_NONTERMS],
     at: usize,
 ) -> u64
-    requires { ⌜ Held (now table) (now «rule_at») sizes × Firsts (grammarIn (now table)) (now firsts) × ItemHeld (now table) at ⌝ }
+    requires { ⌜ Held (now table) (now «rule_at») sizes × Firsts (grammarIn (now table)) (now firsts) × ItemHeld (now table) at × SetNoted (now table) (now sets) at ⌝ }
     ensures { λ r. ⌜ ((b : ℕ) → After (grammarIn (now (table .entry))) (itemIn (now (table .entry)) at) b → SetOf (Asks (grammarIn (now (table .entry))) b (itemIn (now (table .entry)) at)) (suc (grammarIn (now (table .entry)) .terms)) r) ⌝ }
 {
     let r = item_rule(table, at);
     let d = item_dot(table, at);
     let x = symbol_at(table, rule_at, sizes, r, d + 1);
     if x == sizes.terms {
-        return ahead_set(table, at);
+        return set_at(table, sets, at);
     }
     begins(sizes.terms, firsts, x)
 }
@@ -52,17 +54,18 @@ fn note_asked(
     table: &[u16],
     rule_at: &[u16; Shape::MAX_RULES],
     sizes: Sizes,
+    sets: &[u64],
     firsts: &[u64; Shape::MAX_NONTERMS],
     at: usize,
     asked: &mut [u64; Shape::MAX_NONTERMS],
 )
-    requires { ⌜ Held (now table) (now «rule_at») sizes × Firsts (grammarIn (now table)) (now firsts) × ItemHeld (now table) at × (length (now asked) ≡ maxNonterms) ⌝ }
+    requires { ⌜ Held (now table) (now «rule_at») sizes × Firsts (grammarIn (now table)) (now firsts) × ItemHeld (now table) at × (length (now asked) ≡ maxNonterms) × SetNoted (now table) (now sets) at ⌝ }
     ensures { λ _. ⌜ NotedAsked (grammarIn (now (table .entry))) (itemIn (now (table .entry)) at) (now (asked .entry)) (now (asked .exit)) ⌝ }
 {
     let x = after_dot(table, rule_at, sizes, at);
     if sizes.terms < x {
         let b = x - sizes.terms - 1;
-        asked[b] = asked[b] | asked_set(table, rule_at, sizes, firsts, at);
+        asked[b] = asked[b] | asked_set(table, rule_at, sizes, sets, firsts, at);
     }
 }
 
@@ -71,16 +74,17 @@ fn note_given(
     table: &[u16],
     rule_at: &[u16; Shape::MAX_RULES],
     sizes: Sizes,
+    sets: &[u64],
     at: usize,
     given: &mut [u64; Shape::MAX_RULES],
 )
-    requires { ⌜ Held (now table) (now «rule_at») sizes × ItemHeld (now table) at × (length (now given) ≡ maxRules) ⌝ }
+    requires { ⌜ Held (now table) (now «rule_at») sizes × ItemHeld (now table) at × (length (now given) ≡ maxRules) × SetNoted (now table) (now sets) at ⌝ }
     ensures { λ _. ⌜ NotedGiven (grammarIn (now (table .entry))) (itemIn (now (table .entry)) at) (now (given .entry)) (now (given .exit)) ⌝ }
 {
     let r = item_rule(table, at);
     if item_dot(table, at) == 0 {
         if r < sizes.rules {
-            given[r] = given[r] | ahead_set(table, at);
+            given[r] = given[r] | set_at(table, sets, at);
         }
     }
 }
@@ -91,20 +95,21 @@ fn gather(
     rule_at: &[u16; Shape::MAX_RULES],
     state_at: &[u16; Shape::MAX_STATES],
     sizes: Sizes,
+    sets: &[u64],
     firsts: &[u64; Shape::MAX_NONTERMS],
     s: usize,
     asked: &mut [u64; Shape::MAX_NONTERMS],
     given: &mut [u64; Shape::MAX_RULES],
 )
-    requires { ⌜ Held (now table) (now «rule_at») sizes × StatesHeld (now table) (now «state_at») sizes × Firsts (grammarIn (now table)) (now firsts) × (s < sizes .states) × (now asked ≡ replicate maxNonterms 0) × (now given ≡ replicate maxRules 0) ⌝ }
+    requires { ⌜ Held (now table) (now «rule_at») sizes × StatesHeld (now table) (now «state_at») sizes × Firsts (grammarIn (now table)) (now firsts) × (s < sizes .states) × (now asked ≡ replicate maxNonterms 0) × (now given ≡ replicate maxRules 0) × AllNoted (now table) (now «state_at») sizes (now sets) ⌝ }
     ensures { λ _. ⌜ Asked (grammarIn (now (table .entry))) (stateAt (tableIn (now (table .entry))) s .items) (length (stateAt (tableIn (now (table .entry))) s .items)) (now (asked .exit)) × Given (grammarIn (now (table .entry))) (stateAt (tableIn (now (table .entry))) s .items) (length (stateAt (tableIn (now (table .entry))) s .items)) (now (given .exit)) ⌝ }
 {
     let n = item_count(table, state_at, sizes, s);
     let mut at = first_item(table, state_at, sizes, s);
     let mut k = 0;
     while k < n {
-        note_asked(table, rule_at, sizes, firsts, at, asked);
-        note_given(table, rule_at, sizes, at, given);
+        note_asked(table, rule_at, sizes, sets, firsts, at, asked);
+        note_given(table, rule_at, sizes, sets, at, given);
         at = next_item(table, at);
         k += 1;
     }
@@ -138,10 +143,11 @@ pub(crate) fn keeps_4(
     rule_at: &[u16; Shape::MAX_RULES],
     state_at: &[u16; Shape::MAX_STATES],
     sizes: Sizes,
+    sets: &[u64],
     firsts: &[u64; Shape::MAX_NONTERMS],
     s: usize,
 ) -> bool
-    requires { ⌜ Held (now table) (now «rule_at») sizes × StatesHeld (now table) (now «state_at») sizes × Firsts (grammarIn (now table)) (now firsts) × Reduced (grammarIn (now table)) × KeptBefore (tableIn (now table)) 4 × (s < sizes .states) ⌝ }
+    requires { ⌜ Held (now table) (now «rule_at») sizes × StatesHeld (now table) (now «state_at») sizes × Firsts (grammarIn (now table)) (now firsts) × Reduced (grammarIn (now table)) × KeptBefore (tableIn (now table)) 4 × (s < sizes .states) × AllNoted (now table) (now «state_at») sizes (now sets) ⌝ }
     ensures { λ b. ⌜ Tells b (Condition4 (tableIn (now (table .entry))) s) ⌝ }
 {
     let mut asked = [0u64; Shape::MAX_NONTERMS];
@@ -151,6 +157,7 @@ pub(crate) fn keeps_4(
         rule_at,
         state_at,
         sizes,
+        sets,
         firsts,
         s,
         &mut asked,
@@ -165,14 +172,15 @@ pub(crate) fn breaks_4(
     rule_at: &[u16; Shape::MAX_RULES],
     state_at: &[u16; Shape::MAX_STATES],
     sizes: Sizes,
+    sets: &[u64],
     firsts: &[u64; Shape::MAX_NONTERMS],
 ) -> usize
-    requires { ⌜ Held (now table) (now «rule_at») sizes × StatesHeld (now table) (now «state_at») sizes × Firsts (grammarIn (now table)) (now firsts) × Reduced (grammarIn (now table)) × KeptBefore (tableIn (now table)) 4 ⌝ }
+    requires { ⌜ Held (now table) (now «rule_at») sizes × StatesHeld (now table) (now «state_at») sizes × Firsts (grammarIn (now table)) (now firsts) × Reduced (grammarIn (now table)) × KeptBefore (tableIn (now table)) 4 × AllNoted (now table) (now «state_at») sizes (now sets) ⌝ }
     ensures { λ r. ⌜ LowestBreaker (tableIn (now (table .entry))) 4 r ⌝ }
 {
     let mut s = 0;
     while s < sizes.states {
-        if !keeps_4(table, rule_at, state_at, sizes, firsts, s) {
+        if !keeps_4(table, rule_at, state_at, sizes, sets, firsts, s) {
             return s;
         }
         s += 1;

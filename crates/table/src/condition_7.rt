@@ -4,11 +4,12 @@ ghost use Rattle.theory.specs.Table.{Condition7, Complete, stateAt};
 ghost use Rattle.table.specs.Conditions.{LowestBreaker};
 ghost use Rattle.table.specs.Conditions.Parts.{NoShift};
 ghost use Rattle.table.specs.Items.{itemIn, ItemHeld, StatesHeld};
+ghost use Rattle.table.specs.Aheads.{AllNoted};
 ghost use Rattle.table.specs.Places.{Held, tableIn, grammarIn};
 ghost use Rattle.table.specs.Tests.Tell.{Tells};
 use crate::Sizes;
+use crate::aheads::set_at;
 use crate::items::after_dot;
-use crate::items::ahead_set;
 use crate::items::first_go;
 use crate::items::first_item;
 use crate::items::go_count;
@@ -59,9 +60,10 @@ fn keeps_7(
     rule_at: &[u16; Shape::MAX_RULES],
     state_at: &[u16; Shape::MAX_STATES],
     sizes: Sizes,
+    sets: &[u64],
     s: usize,
 ) -> bool
-    requires { ⌜ Held (now table) (now «rule_at») sizes × StatesHeld (now table) (now «state_at») sizes × (s < sizes .states) ⌝ }
+    requires { ⌜ Held (now table) (now «rule_at») sizes × StatesHeld (now table) (now «state_at») sizes × (s < sizes .states) × AllNoted (now table) (now «state_at») sizes (now sets) ⌝ }
     ensures { λ b. ⌜ Tells b (Condition7 (tableIn (now (table .entry))) s) ⌝ }
 {
     let n = item_count(table, state_at, sizes, s);
@@ -70,7 +72,7 @@ fn keeps_7(
     let mut k = 0;
     while k < n {
         if is_complete(table, rule_at, sizes, at) {
-            let ahead = ahead_set(table, at);
+            let ahead = set_at(table, sets, at);
             if set & ahead != 0 {
                 return false;
             }
@@ -88,13 +90,14 @@ pub(crate) fn breaks_7(
     rule_at: &[u16; Shape::MAX_RULES],
     state_at: &[u16; Shape::MAX_STATES],
     sizes: Sizes,
+    sets: &[u64],
 ) -> usize
-    requires { ⌜ Held (now table) (now «rule_at») sizes × StatesHeld (now table) (now «state_at») sizes ⌝ }
+    requires { ⌜ Held (now table) (now «rule_at») sizes × StatesHeld (now table) (now «state_at») sizes × AllNoted (now table) (now «state_at») sizes (now sets) ⌝ }
     ensures { λ r. ⌜ LowestBreaker (tableIn (now (table .entry))) 7 r ⌝ }
 {
     let mut s = 0;
     while s < sizes.states {
-        if !keeps_7(table, rule_at, state_at, sizes, s) {
+        if !keeps_7(table, rule_at, state_at, sizes, sets, s) {
             return s;
         }
         s += 1;

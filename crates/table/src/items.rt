@@ -6,7 +6,7 @@ ghost use lib.ListN.{length, getD};
 ghost use Rattle.theory.specs.Table.{ruleAt, stateAt};
 ghost use Rattle.lines.specs.Limits.{maxStates};
 ghost use Rattle.table.specs.Places.{Held, tableIn, grammarIn, afterItem, afterState, gosPlace};
-ghost use Rattle.table.specs.Items.{itemIn, goHere, ItemHeld, StatesHeld, FirstItem};
+ghost use Rattle.table.specs.Items.{itemIn, goHere, ItemHeld, StatesHeld};
 ghost use Rattle.table.specs.Items.Dot.{afterDot};
 ghost use Rattle.table.specs.Sets.{SetOf};
 use crate::Sizes;
@@ -16,12 +16,6 @@ use crate::places::right_symbol;
 use crate::places::wide;
 use crate::sets::single;
 use lines::Shape;
-
-// Where an item stands: which of its state's items it is, and the place of its line.
-pub(crate) struct Spot {
-    pub index: usize,
-    pub place: usize,
-}
 
 // The place of a state's line.
 fn state_place(state_at: &[u16; Shape::MAX_STATES], s: usize) -> usize
@@ -173,39 +167,6 @@ pub(crate) fn after_dot(
     let r = item_rule(table, at);
     let d = item_dot(table, at);
     symbol_at(table, rule_at, sizes, r, d)
-}
-
-// The first of the first n items of a state that has this rule and this dot; what comes after those n if none has.
-pub(crate) fn find_item(
-    table: &[u16],
-    state_at: &[u16; Shape::MAX_STATES],
-    sizes: Sizes,
-    s: usize,
-    n: usize,
-    rule: usize,
-    dot: usize,
-) -> Spot
-    requires { ⌜ StatesHeld (now table) (now «state_at») sizes × (s < sizes .states) × (n ≤ length (stateAt (tableIn (now table)) s .items)) ⌝ }
-    ensures { λ f. ⌜ FirstItem (stateAt (tableIn (now (table .entry))) s .items) n (getD (now («state_at» .entry)) s 0 + 3) rule dot f ⌝ }
-{
-    let mut at = first_item(table, state_at, sizes, s);
-    let mut k = 0;
-    while k < n {
-        if item_rule(table, at) == rule {
-            if item_dot(table, at) == dot {
-                return Spot {
-                    index: k,
-                    place: at,
-                };
-            }
-        }
-        at = next_item(table, at);
-        k += 1;
-    }
-    Spot {
-        index: k,
-        place: at,
-    }
 }
 
 // The symbol of the go line at a place.

@@ -11,6 +11,8 @@ mod grammar; // grammar.rt: the productive and the reachable nonterminals, and u
 mod faults; // faults.rt: the grammar's lowest fault
 mod firsts; // firsts.rt: the kinds that can begin each nonterminal
 mod items; // items.rt: the items and go lines of a state
+mod aheads; // aheads.rt: the look-ahead sets of all items, made once
+mod spots; // spots.rt: where the items of a state stand, by rule and dot
 mod condition_1; // condition_1.rt: state 0's beginning, the accept rule, dots above 0
 mod condition_2; // condition_2.rt: no two items agree
 mod condition_3; // condition_3.rt: items with dot 0 are called for

@@ -2,11 +2,15 @@
 ghost use Rattle.theory.specs.Grammar.{Reduced, NoRing};
 ghost use Rattle.table.specs.Check.{Answers};
 ghost use Rattle.table.specs.Checks.{KeptBefore};
+ghost use Prim.Native.Nat.{_*_, _≤_};
+ghost use lib.ListN.{length};
+ghost use Rattle.table.specs.Aheads.{AllNoted};
 ghost use Rattle.table.specs.Items.{StatesHeld};
 ghost use Rattle.table.specs.Places.{Held, grammarIn, tableIn};
 use crate::Check;
 use crate::Found;
 use crate::Sizes;
+use crate::aheads::note_sets;
 use crate::condition_1::breaks_1;
 use crate::condition_2::breaks_2;
 use crate::condition_3::breaks_3;
@@ -25,11 +29,12 @@ fn from_5(
     rule_at: &[u16; Shape::MAX_RULES],
     state_at: &[u16; Shape::MAX_STATES],
     sizes: Sizes,
+    sets: &[u64],
 ) -> Check
-    requires { ⌜ Held (now table) (now «rule_at») sizes × StatesHeld (now table) (now «state_at») sizes × Reduced (grammarIn (now table)) × NoRing (grammarIn (now table)) × KeptBefore (tableIn (now table)) 5 ⌝ }
+    requires { ⌜ Held (now table) (now «rule_at») sizes × StatesHeld (now table) (now «state_at») sizes × Reduced (grammarIn (now table)) × NoRing (grammarIn (now table)) × KeptBefore (tableIn (now table)) 5 × AllNoted (now table) (now «state_at») sizes (now sets) ⌝ }
     ensures { λ r. ⌜ Answers (tableIn (now (table .entry))) r ⌝ }
 {
-    let fifth = breaks_5(table, rule_at, state_at, sizes);
+    let fifth = breaks_5(table, rule_at, state_at, sizes, sets);
     if fifth < sizes.states {
         return Check::Broken(5, fifth);
     }
@@ -37,11 +42,58 @@ fn from_5(
     if sixth < sizes.states {
         return Check::Broken(6, sixth);
     }
-    let seventh = breaks_7(table, rule_at, state_at, sizes);
+    let seventh = breaks_7(table, rule_at, state_at, sizes, sets);
     if seventh < sizes.states {
         return Check::Broken(7, seventh);
     }
     Check::Passes(sizes.states)
+}
+
+// Condition 4 and those after it, where all states keep 1 to 3, with room for the look-ahead sets.
+fn from_sets(
+    table: &[u16],
+    rule_at: &[u16; Shape::MAX_RULES],
+    state_at: &[u16; Shape::MAX_STATES],
+    sizes: Sizes,
+    sets: &mut [u64],
+) -> Check
+    requires { ⌜ Held (now table) (now «rule_at») sizes × StatesHeld (now table) (now «state_at») sizes × Reduced (grammarIn (now table)) × NoRing (grammarIn (now table)) × KeptBefore (tableIn (now table)) 4 × (length (now table) ≤ 4 * length (now sets)) ⌝ }
+    ensures { λ r. ⌜ Answers (tableIn (now (table .entry))) r ⌝ }
+{
+    note_sets(table, state_at, sizes, sets);
+    let rows = firsts(table, rule_at, sizes);
+    let fourth = breaks_4(table, rule_at, state_at, sizes, sets, &rows);
+    if fourth < sizes.states {
+        return Check::Broken(4, fourth);
+    }
+    from_5(table, rule_at, state_at, sizes, sets)
+}
+
+// The same; the room is made here, small for a small table.
+fn from_4(
+    table: &[u16],
+    rule_at: &[u16; Shape::MAX_RULES],
+    state_at: &[u16; Shape::MAX_STATES],
+    sizes: Sizes,
+) -> Check
+    requires { ⌜ Held (now table) (now «rule_at») sizes × StatesHeld (now table) (now «state_at») sizes × Reduced (grammarIn (now table)) × NoRing (grammarIn (now table)) × KeptBefore (tableIn (now table)) 4 ⌝ }
+    ensures { λ r. ⌜ Answers (tableIn (now (table .entry))) r ⌝ }
+{
+    let n = table.len();
+    if n <= 512 {
+        let mut few = [0u64; 128];
+        return from_sets(table, rule_at, state_at, sizes, &mut few);
+    }
+    if n <= 2048 {
+        let mut some = [0u64; 512];
+        return from_sets(table, rule_at, state_at, sizes, &mut some);
+    }
+    if n <= 24000 {
+        let mut many = [0u64; 6000];
+        return from_sets(table, rule_at, state_at, sizes, &mut many);
+    }
+    let mut most = [0u64; Shape::MAX_NUMBERS / 4];
+    from_sets(table, rule_at, state_at, sizes, &mut most)
 }
 
 // All seven conditions, where the grammar is in order.
@@ -66,12 +118,7 @@ fn from_1(
     if third < sizes.states {
         return Check::Broken(3, third);
     }
-    let rows = firsts(table, rule_at, sizes);
-    let fourth = breaks_4(table, rule_at, state_at, sizes, &rows);
-    if fourth < sizes.states {
-        return Check::Broken(4, fourth);
-    }
-    from_5(table, rule_at, state_at, sizes)
+    from_4(table, rule_at, state_at, sizes)
 }
 
 // The unit rings, where every nonterminal is productive and reachable; then the conditions.

@@ -6,10 +6,12 @@
 // that is broken and the lowest state that breaks it.
 use libc::STDIN_FILENO;
 use libc::STDOUT_FILENO;
+use runs::field;
+use runs::show_two;
 use table::Check;
 use table::check_table;
 
-mod cases; // cases.rt: what the input says: numbers, names, tables
+mod cases; // cases.rt: the tables that the parts of an input make
 
 const MAX_CASES: usize = 1000;
 
@@ -17,32 +19,27 @@ const MAX_INPUT: usize = 80000;
 
 const MAX_NUMBERS: usize = 65535;
 
-// Prints two numbers.
-fn show(number: u64, value: usize) {
-    io::write_all(STDOUT_FILENO, b" ");
-    io::print_decimal(STDOUT_FILENO, number);
-    io::write_all(STDOUT_FILENO, b" ");
-    io::print_decimal(STDOUT_FILENO, value as u64);
-}
-
 // Prints what the check tells by document 01's number and value, and for a broken condition which one and where.
 fn show_check(check: Check) {
     match check {
-        Check::Passes(states) => show(0, states),
-        Check::TooLong => show(10, 0),
-        Check::Unfit(line) => show(12, line),
-        Check::NotReduced(symbol) => show(20, symbol),
-        Check::Ring(symbol) => show(21, symbol),
+        Check::Passes(states) => show_two(0, states),
+        Check::TooLong => show_two(10, 0),
+        Check::Unfit(line) => show_two(12, line),
+        Check::NotReduced(symbol) => show_two(20, symbol),
+        Check::Ring(symbol) => show_two(21, symbol),
         Check::Broken(condition, state) => {
-            show(22, 0);
-            show(condition as u64, state);
+            show_two(22, 0);
+            show_two(condition as usize, state);
         }
     }
 }
 
 // Runs the case that begins at a place, and answers the place after it.
 fn case_at(input: &[u8], at: usize, numbers: &mut [u16]) -> usize {
-    let end = cases::word_end(input, at);
+    if input.len() < at {
+        return input.len();
+    }
+    let end = bytes::scan::find(input, at, input.len(), b' ');
     if end <= at {
         return input.len();
     }
@@ -50,7 +47,7 @@ fn case_at(input: &[u8], at: usize, numbers: &mut [u16]) -> usize {
         return input.len();
     }
     io::write_all(STDOUT_FILENO, &input[at..end]);
-    let parts = cases::field(input, end + 1);
+    let parts = field(input, end + 1);
     let made = cases::table_of(input, parts.next, parts.value, numbers);
     let length = made.value;
     if numbers.len() < length {

@@ -6,13 +6,15 @@ use mathlib.Core.List.{List, _++_}
 use Rattle.theory.specs.Table.{Table}
 use Rattle.lines.specs.Basics.{impossible}
 use Rattle.lines.specs.Ranges.{FitLines}
-use Rattle.sheet.specs.Tail.{tailLine}
+use Rattle.sheet.specs.Tail.{Words, tailLine}
 use Rattle.sheet.specs.Reads.{Reads, SheetOf}
 use Rattle.table.specs.Check.Exact.{one-table}
-use Rattle.judge.specs.Judge.{Good, Ready, JudgesUpTo}
-use Rattle.judge.specs.Judge.Demands.{Worth, demands, refused-high}
+use Rattle.judge.specs.Judge.{Good, Ready, JudgesUpTo, outcomeUpTo}
+use Rattle.judge.specs.Judge.Demands.{Worth, demands, refused-high, not-refused}
+use Rattle.judge.specs.Judge.Exact.{holds as judge-holds}
 use Rattle.judge.specs.declared.Judgement.{Judgement}
-use Rattle.input.specs.Box.{Box, Boxes, numbersOf}
+use Rattle.input.specs.Box.{Box, Boxes, Given, numbersOf}
+use Rattle.input.specs.Box.Exact.{unique}
 use Rattle.input.specs.Box.Sizes.{sheet-twice}
 
 -- The input is the sheet of a table and the line of a tail; the tail has no more tokens than are taken, and there is room for them; and the
@@ -62,3 +64,11 @@ box-demands {b} {bs} (Boxes.judged last xs t j g e w h) l =
       its-sheet = subst (SheetOf (g .sheet)) (one-table f (d .good .its-numbers)) (g .its-sheet);
       ready = judged-ready h l (d .table) (d .good);
     }
+
+-- an input that is the sheet of a table which passes and the line of a tail that is ready is not refused
+pub box-not-refused : {b : Box} {bs last xs : List ℕ} {t : Table} {j : Judgement} → Given b bs last t → last ≡ tailLine xs → Words xs →
+    Good (numbersOf t) t → Ready (b .tokens) xs (b .words) t → Boxes b bs j → j .answer < 2
+box-not-refused {b} {bs} {last} {xs} {t} {j} g e w p r h =
+    let k = outcomeUpTo (b .tokens) (numbersOf t) xs (b .words) in
+    let y = judge-holds (b .tokens) (numbersOf t) xs (b .words) in
+    subst (λ (x : Judgement). x .answer < 2) (unique b bs k j (Boxes.judged last xs t k g e w y) h) (not-refused t p r y)

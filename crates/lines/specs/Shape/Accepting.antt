@@ -13,7 +13,7 @@ use Rattle.lines.specs.Lines.{less}
 use Rattle.lines.specs.Lines.Fits.{at, within, isNonterm, fitsRule}
 use Rattle.lines.specs.Ranges.{Within}
 use Rattle.lines.specs.Ranges.Tests.{within-says}
-use Rattle.lines.specs.Shape.{fitsShape, nextShape, accepted, lengthsWith, lengthsAfter}
+use Rattle.lines.specs.Shape.{fitsDue, fitsShape, nextShape, accepted, lengthsWith, lengthsAfter}
 use Rattle.lines.specs.declared.shape.Due.the-variants.{Rule}
 use Rattle.lines.specs.declared.shape.Shape.{Shape}
 use Rattle.lines.specs.declared.line.Accepted.the-variants.{Next, Unfit}
@@ -59,9 +59,9 @@ module _ (s : Shape) (ls xs : List ℕ) where
 
   -- a rule line that fits has a place in the lengths, and a left side and 1 to 8 symbols
   pub rule-fits : s .due ≡ Rule → fitsShape s ls xs ≡ true → (s .rules < maxRules) × (fitsRule (s .terms) (s .nonterms) xs ≡ true)
-  unfolding fitsShape
+  unfolding fitsDue
   rule-fits e f =
-      let h : (ltb (s .rules) maxRules && fitsRule (s .terms) (s .nonterms) xs) ≡ true = rw (e, fitsShape) at f in
+      let h : (ltb (s .rules) maxRules && fitsRule (s .terms) (s .nonterms) xs) ≡ true = rw (e, fitsDue) at f in
       let (p, q) = both (ltb (s .rules) maxRules) (fitsRule (s .terms) (s .nonterms) xs) h in
       (ltb-true (s .rules) maxRules p, q)
 

@@ -19,7 +19,7 @@ use Rattle.lines.specs.Lines as L
 use Rattle.lines.specs.Lines.Numbers.{accept-holds, accept-refuses}
 use Rattle.lines.specs.Ranges.Tests.{rights-append, ons-append}
 use Rattle.lines.specs.Ranges.Bounds.{Bounded, withDue, start-bounded, next-bounded}
-use Rattle.lines.specs.Shape.{headingShape, bodyShape, startShape, fitsShape, settledShape, dueWhile, nextShape, accepted, lengthsWith, lengthsAfter}
+use Rattle.lines.specs.Shape.{headingShape, bodyShape, startShape, fitsDue, fitsShape, settledShape, dueWhile, nextShape, accepted, lengthsWith, lengthsAfter}
 use Rattle.lines.specs.Shape.Accepting.{fit-after, misfit-after, next-fit, unfit-misfit}
 use Rattle.lines.specs.declared.shape.Due.{Due}
 use Rattle.lines.specs.declared.shape.Due.the-variants.{Terms, Nonterms, Rules, Rule, States, State, Item, Go, End}
@@ -146,7 +146,7 @@ rule-place d b e = let k = b .rule-left e in let r = b .rules-in in omega arith
 -- the tests agree at each kind of line
 fits-at : (w : L.Due) (d : Draft) (ls xs : List ℕ) → take (length (d .rules)) ls ≡ rights (d .rules) → Bounded (withDue w d) →
     fitsShape (shapeOf (withDue w d)) ls xs ≡ fits (withDue w d) xs
-unfolding fitsShape fits fitsGo
+unfolding fitsDue fits fitsGo
 fits-at L.Due.terms d ls xs e b = refl
 fits-at L.Due.nonterms d ls xs e b = refl
 fits-at L.Due.rules d ls xs e b = refl

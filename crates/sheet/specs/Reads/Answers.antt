@@ -1,15 +1,15 @@
--- From what the two passes find and leave to the reader's outcome.
+-- From what the pass finds and keeps to the reader's outcome.
 use Prim.Native.Nat.{ℕ, _≤_, _<_}
+use native.Mathlib.Omega.{arith}
 use mathlib.Core.Path.{_≡_, refl, sym, ap, _∙_, subst}
 use mathlib.Core.List.{List, []}
-use lib.ListN.{length}
+use lib.ListN.{length, take, length-take}
 use borrow.Author.Tests.{le-leb, lt-leb}
 use Rattle.lines.specs.Basics.{never}
 use Rattle.lines.specs.Limits.{maxBytes}
 use Rattle.lines.specs.Lines.{Draft, start}
-use Rattle.sheet.specs.Sheet.{Read, sheetAt, readSheet, outcome, sliceAfter}
-use Rattle.sheet.specs.Scan.{scanOf}
-use Rattle.sheet.specs.Fill.{Fillable, filled}
+use Rattle.sheet.specs.Sheet.{Read, sheetAt, readSheet, outcome, inFront, sliceAfter}
+use Rattle.sheet.specs.Scan.{scanOf, Kept}
 use Rattle.sheet.specs.Reads.{ReadsInto, answerOf}
 use Rattle.sheet.specs.Reads.Exact.{never-over}
 use Rattle.sheet.specs.Reads.Slices.{computed}
@@ -57,35 +57,52 @@ module _ (bs before : List ℕ) where
             computed bs before (12, line) before (rw (q, outcome) refl) (rw (q, sliceAfter) refl)
         at (Read.good ns d) p = let h : Scanned.Unfit line ≡ Scanned.Good (length ns) = e ∙ ap scanOf p in never cc
 
-    -- all lines are read: their numbers
-    counted : (count : ℕ) → Scanned.Good count ≡ scanOf (sheetAt 0 [] start bs) → (ns : List ℕ) × (d : Draft) × (readSheet bs ≡ Read.good ns d) × (count ≡ length ns)
-    unfolding scanOf
-    counted count e = at (sheetAt 0 [] start bs) refl
-      where
-        at : (r : Read) → sheetAt 0 [] start bs ≡ r → (ns : List ℕ) × (d : Draft) × (readSheet bs ≡ Read.good ns d) × (count ≡ length ns)
-        at Read.over p = absurd (never-over bs p)
-        at (Read.bad n) p = let h : Scanned.Good count ≡ Scanned.Bad n = e ∙ ap scanOf p in never cc
-        at (Read.unfit n) p = let h : Scanned.Good count ≡ Scanned.Unfit n = e ∙ ap scanOf p in never cc
-        at (Read.good ns d) p = let h : Scanned.Good count ≡ Scanned.Good (length ns) = e ∙ ap scanOf p in (ns, d, whole ∙ p, cc)
+    module _ (count : ℕ) (e : Scanned.Good count ≡ scanOf (sheetAt 0 [] start bs)) (kept : List ℕ) (k : Kept (sheetAt 0 [] start bs) kept) where
+      -- all lines are read: their numbers stand at the front of the array
+      record Counted : Type 0 where
+        numbers : List ℕ
+        draft : Draft
+        read : readSheet bs ≡ Read.good numbers draft
+        how-many : count ≡ length numbers
+        held : take count kept ≡ numbers
 
-    module _ (count : ℕ) (e : Scanned.Good count ≡ scanOf (sheetAt 0 [] start bs)) where
+      counted : Counted
+      unfolding scanOf
+      counted = at (sheetAt 0 [] start bs) refl
+        where
+          at : (r : Read) → sheetAt 0 [] start bs ≡ r → Counted
+          at Read.over p = absurd (never-over bs p)
+          at (Read.bad n) p = let h : Scanned.Good count ≡ Scanned.Bad n = e ∙ ap scanOf p in never cc
+          at (Read.unfit n) p = let h : Scanned.Good count ≡ Scanned.Unfit n = e ∙ ap scanOf p in never cc
+          at (Read.good ns d) p =
+              let h : Scanned.Good count ≡ Scanned.Good (length ns) = e ∙ ap scanOf p in
+              let c : count ≡ length ns = cc in
+              record {
+                numbers = ns;
+                draft = d;
+                read = whole ∙ p;
+                how-many = c;
+                held = ap (λ (x : ℕ). take x kept) c ∙ subst (λ r. Kept r kept) p k;
+              }
+
+      -- they are no more than the array has
+      pub kept-room : count ≤ length kept
+      kept-room =
+          let a = ap (λ (x : List ℕ). length x) (counted .held) in let b = length-take count kept in let c = counted .how-many in omega arith
+
       -- no room for the numbers
       pub answer-short : length before < count → ReadsInto bs before (answerOf (Answer.Short count)) before
       unfolding answerOf outcome sliceAfter
       answer-short h =
-          let (ns, d, p, q) = counted count e in
-          let b = lt-leb (length ns) (length before) (subst (λ (x : ℕ). length before < x) q h) in
-          computed bs before (13, count) before (rw (p, outcome) (rw b (ap (λ (x : ℕ). (13, x)) (sym q)))) (rw (p, sliceAfter) (rw b refl))
-
-      -- there is room
-      pub fillable : count ≤ length before → Fillable bs (length before)
-      fillable h = let (ns, d, p, q) = counted count e in record { numbers = ns; draft = d; read = p; fits = subst (λ (x : ℕ). x ≤ length before) q h }
+          let q = counted .how-many in
+          let b = lt-leb (length (counted .numbers)) (length before) (omega arith) in
+          computed bs before (13, count) before (rw (counted .read, outcome) (rw b (ap (λ (x : ℕ). (13, x)) (sym q)))) (rw (counted .read, sliceAfter) (rw b refl))
 
       -- the numbers are written
-      pub answer-fit : count ≤ length before → (after : List ℕ) → after ≡ filled (readSheet bs) before → ReadsInto bs before (answerOf (Answer.Fit count)) after
-      unfolding answerOf outcome sliceAfter filled
+      pub answer-fit : count ≤ length before → (after : List ℕ) → after ≡ inFront (take count kept) before → ReadsInto bs before (answerOf (Answer.Fit count)) after
+      unfolding answerOf outcome sliceAfter
       answer-fit h after f =
-          let (ns, d, p, q) = counted count e in
-          let b = le-leb (length ns) (length before) (subst (λ (x : ℕ). x ≤ length before) q h) in
-          computed bs before (0, count) after (rw (p, outcome) (rw b (ap (λ (x : ℕ). (0, x)) (sym q))))
-          (rw (p, sliceAfter) (rw b (sym (f ∙ ap (λ r. filled r before) p))))
+          let q = counted .how-many in
+          let b = le-leb (length (counted .numbers)) (length before) (omega arith) in
+          computed bs before (0, count) after (rw (counted .read, outcome) (rw b (ap (λ (x : ℕ). (0, x)) (sym q))))
+          (rw (counted .read, sliceAfter) (rw b (sym (f ∙ ap (λ (x : List ℕ). inFront x before) (counted .held)))))

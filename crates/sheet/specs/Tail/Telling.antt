@@ -1,52 +1,26 @@
 -- Laws of the pass that finds what a tail line says, and of what its answer means for the line and the slice.
 use Prim.Native.Nat.{ℕ, _+_, _≤_, _<_, max}
 use native.Mathlib.Omega.{arith}
-use native.Mathlib.Decide.{decLt}
 use mathlib.Core.Path.{_≡_, refl, sym, ap, _∙_, subst}
 use mathlib.Core.Bool.{Bool, true, false}
 use mathlib.Core.Option.{Option, none, some}
-use mathlib.Core.List.{List, [], _∷_, _++_, List·Memᴰ·head as Mem·head, Memᴰ·append-left, Memᴰ·append-right}
-use lib.ListN.{length, drop, getD, length-append, drop-of-length-le}
+use mathlib.Core.List.{List, [], _∷_, _++_}
+use lib.ListN.{length, drop, getD, drop-of-length-le}
 use lib.Seq.{take-length}
 use lib.Dec.{leb}
 use Rattle.theory.specs.Basics.{drop-some}
-use Rattle.lines.specs.Basics.{all-nil, all-cons, all-append, never}
+use Rattle.lines.specs.Basics.{never}
 use Rattle.lines.specs.Lines.Fits.{all}
 use Rattle.sheet.specs.Sheet.{newline, space, after, inFront}
 use Rattle.sheet.specs.Text.{maxWord, numberAt, Value, bad, has, valueOf}
+use Rattle.sheet.specs.Text.Tallies.{Tallied, tally-none, tally-more}
 use Rattle.sheet.specs.Text.Readings.{Reading, number-within, reading-start, reading-more}
 use Rattle.sheet.specs.Text.Keyed.{opening, keyed-other, keyed-value}
-use Rattle.sheet.specs.Fill.Putting.{Puttable, PutAt}
+use Rattle.sheet.specs.Putting.{Puttable, PutAt}
 use Rattle.sheet.specs.Tail.{tailKey, Words, ReadsTail, tokens, many, range, form, alone, tailOf, toldOf}
 use Rattle.sheet.specs.Tail.Exact.{tail-read, read-tail, alone-says, words-test, test-words, wide-test}
 use Rattle.sheet.specs.declared.text.Numeral.{Numeral}
 use Rattle.sheet.specs.declared.TailLine.{TailLine}
-
--- ---- the count and the largest of the numbers so far
-
--- how many they are, and a number that is of 16 bits exactly if they all are
-pub record Tallied (n top : ℕ) (xs : List ℕ) : Type 0 where
-  pub counted : n ≡ length xs
-  pub small : top ≤ maxWord → Words xs
-  pub wide : maxWord < top → Words xs → ⊥
-
--- of none
-pub tally-none : Tallied 0 0 []
-tally-none = record { counted = refl; small = λ h. all-nil (λ x. x ≤ maxWord); wide = λ h w. omega arith }
-
--- one number more
-tally-more : (n top v more : ℕ) (xs : List ℕ) → more ≡ max top v → Tallied n top xs → Tallied (n + 1) more (xs ++ (v ∷ []))
-tally-more n top v more xs e t = record {
-  counted = let a = t .counted in simp length-append (omega arith);
-  small = λ h.
-      all-append (λ x. x ≤ maxWord) xs (v ∷ []) (t .small (omega arith))
-      (all-cons (λ x. x ≤ maxWord) (omega arith) (all-nil (λ x. x ≤ maxWord)));
-  wide = λ h w. by (decLt maxWord top) h w;
-}
-  where
-    by : Dec (maxWord < top) → maxWord < more → Words (xs ++ (v ∷ [])) → ⊥
-    by (yes p) h w = t .wide p (λ x m. w x (Memᴰ·append-left (v ∷ []) m))
-    by (no q) h w = let k = w v (Memᴰ·append-right xs (Mem·head refl)) in omega arith
 
 -- ---- the loop
 

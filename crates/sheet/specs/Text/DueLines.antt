@@ -2,21 +2,17 @@
 use Prim.Native.Nat.{ℕ, suc, _+_, _≤_}
 use native.Mathlib.Omega.{arith}
 use mathlib.Core.Path.{_≡_, refl, sym, ap, _∙_}
-use mathlib.Core.Bool.{Bool, true, false, not}
+use mathlib.Core.Bool.{true, false}
 use mathlib.Core.Option.{Option, none, some}
 use mathlib.Core.Logic.{inl, inr, ⊎-elim}
-use mathlib.Core.List.{List, [], _∷_, _++_, append-assoc}
-use lib.ListN.{length, drop, length-drop}
-use lib.Dec.{eqb}
-use borrow.Author.Tests.{not-true}
-use Rattle.theory.specs.Basics.{both}
+use mathlib.Core.List.{List, [], _∷_, _++_}
+use lib.ListN.{length, drop, length-drop, length-append}
 use Rattle.lines.specs.Basics.{never, impossible}
 use Rattle.lines.specs.Lines.{Due, key, isEnd, Draft, accept, Cut}
-use Rattle.lines.specs.Lines.Fits.{all}
 use Rattle.sheet.specs.Sheet.{equals, after, dueLine, cutLine, Read, sheetAt}
-use Rattle.sheet.specs.Sheet.Forms.{key-text, front-after, cut-nothing}
+use Rattle.sheet.specs.Sheet.Forms.{key-text, cut-nothing}
 use Rattle.sheet.specs.Sheet.Steps.{at-short, at-bad, at-unfit, at-fit}
-use Rattle.sheet.specs.Text.{Value, bad, has, ended, valueOf, keyed, lineOf, afterEquals, Behind, Opened, Told}
+use Rattle.sheet.specs.Text.{Value, bad, has, ended, valueOf, keyed, lineOf, Behind, Opened, Roomy, Told}
 use Rattle.sheet.specs.Text.Keys.{after-long}
 use Rattle.sheet.specs.Text.Keyed.{opening, keyed-endless, keyed-whole, keyed-other, keyed-value}
 use Rattle.sheet.specs.declared.text.Line.{Line}
@@ -63,16 +59,48 @@ line-other w bs e h = line-keyed w bs e ∙ keyed-other (key w) bs h
 line-value : (w : Due) (bs v : List ℕ) → isEnd w ≡ false → after (opening (key w)) bs ≡ some v → lineOf w bs ≡ valueOf v
 line-value w bs v e h = line-keyed w bs e ∙ keyed-value (key w) bs v (key-text w) h
 
+-- a key has two bytes at least
+key-long : (w : Due) → isEnd w ≡ false → 2 ≤ length (key w)
+unfolding key isEnd
+key-long Due.terms e = omega arith
+key-long Due.nonterms e = omega arith
+key-long Due.rules e = omega arith
+key-long Due.rule e = omega arith
+key-long Due.states e = omega arith
+key-long Due.state e = omega arith
+key-long Due.item e = omega arith
+key-long Due.go e = omega arith
+key-long Due.end e = never cc
+
 -- what is behind the key and the equals sign of the line that is due is its value
-pub due-opened : (w : Due) (s : List ℕ) (at : ℕ) (r : Opening) → isEnd w ≡ false → Behind (opening (key w)) s at r → Opened w s at r
-due-opened w s at (Opening.At p) e (a, b, h) = (a, b, line-value w (drop at s) (drop p s) e h)
-due-opened w s at Opening.No e h = line-other w (drop at s) e h
+pub due-opened : (w : Due) (s : List ℕ) (at : ℕ) (r : Opening) → at ≤ length s → isEnd w ≡ false → Behind (opening (key w)) s at r → Opened w s at r
+due-opened w s at (Opening.At p) l e (a, b, h) =
+    let k = key-long w e in
+    let m = after-long (opening (key w)) (drop at s) (drop p s) h in
+    let d = length-drop at s in
+    let f = length-drop p s in
+    let g = length-append (key w) (equals ∷ []) in
+    (omega arith, b, line-value w (drop at s) (drop p s) e h)
+due-opened w s at Opening.No l e h = line-other w (drop at s) e h
+
+-- there is room for the numbers of the value behind the place for their count
+pub room-behind : (s : List ℕ) (at p : ℕ) (room : List ℕ) (w : ℕ) → Roomy s at room w → at + 2 ≤ p → p ≤ length s → Roomy s p room (w + 1)
+room-behind s at p room w (a, b, c) h l = (l, omega arith, c)
 
 -- what is told of the value is told of the line
-pub told-line : (u v : Value) (s : List ℕ) (at p : ℕ) (r : Line) (room : List ℕ) → u ≡ v → at ≤ p → Told v s p r room → Told u s at r room
-told-line u v s at p (Line.Whole n e) room q h (a, b, c, d, f) = (a, omega arith, c, d, q ∙ f)
-told-line u v s at p Line.Unfit room q h (ns, rest, f, b) = (ns, rest, q ∙ f, b)
-told-line u v s at p Line.Bad room q h f = q ∙ f
+pub told-line : (u v : Value) (s : List ℕ) (at p : ℕ) (before : List ℕ) (w : ℕ) (r : Line) (after : List ℕ) → u ≡ v → at ≤ p →
+    Told v s p before w r after → Told u s at before w r after
+told-line u v s at p before w (Line.Whole n e) after q h t = record {
+  passed = let a = t .passed in omega arith;
+  inside = t .inside;
+  half = t .half;
+  numbers = t .numbers;
+  value = q ∙ t .value;
+  counted = t .counted;
+  placed = t .placed;
+}
+told-line u v s at p before w Line.Unfit after q h t = record { numbers = t .numbers; rest = t .rest; value = q ∙ t .value; wide = t .wide }
+told-line u v s at p before w Line.Bad after q h t = q ∙ t
 
 -- the bytes from a place on begin with a key, or not
 pub behind-key : (k s : List ℕ) (at : ℕ) → at ≤ length s → after k (drop at s) ≡ some (drop (at + length k) s) → Behind k s at (Opening.At (at + length k))
@@ -81,41 +109,6 @@ behind-key k s at h e =
     let d = length-drop at s in
     let f = length-drop (at + length k) s in
     (omega arith, omega arith, e)
-
--- ---- the value behind the first equals sign
-
-equals-front : (k v : List ℕ) → all (λ c. not (eqb c equals)) k ≡ true → afterEquals (k ++ (equals ∷ v)) ≡ v
-unfolding afterEquals all
-equals-front [] v e = refl
-equals-front (c ∷ k) v e =
-    let (a, b) = both (not (eqb c equals)) (all (λ c. not (eqb c equals)) k) e in
-    rw (not-true (eqb c equals) a, afterEquals) (equals-front k v b)
-
-key-equals : (w : Due) → all (λ c. not (eqb c equals)) (key w) ≡ true
-unfolding key all
-key-equals Due.terms = refl
-key-equals Due.nonterms = refl
-key-equals Due.rules = refl
-key-equals Due.rule = refl
-key-equals Due.states = refl
-key-equals Due.state = refl
-key-equals Due.item = refl
-key-equals Due.go = refl
-key-equals Due.end = refl
-
--- a line in its form: its value stands behind the first equals sign
-pub value-behind : (w : Due) (bs xs rest : List ℕ) → lineOf w bs ≡ has xs rest → valueOf (afterEquals bs) ≡ has xs rest
-value-behind w bs xs rest e = due (isEnd w) refl
-  where
-    due : (b : Bool) → isEnd w ≡ b → valueOf (afterEquals bs) ≡ has xs rest
-    due true p = let h : bad ≡ has xs rest = sym (line-extra w bs p) ∙ e in never cc
-    due false p = first (after (opening (key w)) bs) refl
-      where
-        first : (o : Option (List ℕ)) → after (opening (key w)) bs ≡ o → valueOf (afterEquals bs) ≡ has xs rest
-        first none q = let h : bad ≡ has xs rest = sym (line-other w bs p q) ∙ e in never cc
-        first (some v) q =
-            let f : bs ≡ key w ++ (equals ∷ v) = front-after (opening (key w)) bs v q ∙ append-assoc (key w) (equals ∷ []) v in
-            ap valueOf (ap afterEquals f ∙ equals-front (key w) v (key-equals w)) ∙ sym (line-value w bs v p q) ∙ e
 
 -- ---- what a line makes of the reading of a sheet
 
@@ -159,21 +152,3 @@ module _ (at : ℕ) (ns : List ℕ) (d : Draft) (bs : List ℕ) where
   pub sheet-fit : (xs rest : List ℕ) (f : Draft) → lineOf (d .due) bs ≡ has xs rest → accept d xs ≡ some f →
       sheetAt at ns d bs ≡ sheetAt (suc at) (ns ++ (length xs ∷ xs)) f rest
   sheet-fit xs rest f e g = let (l, p, q) = line-parts (d .due) bs xs rest e in at-fit at ns d f bs l rest xs p q g
-
-  -- a sheet that is read goes on with a line that is taken in
-  pub sheet-goes : (ms : List ℕ) (e : Draft) → 1 ≤ length bs → sheetAt at ns d bs ≡ Read.good ms e →
-      (xs : List ℕ) × (rest : List ℕ) × (f : Draft) × (lineOf (d .due) bs ≡ has xs rest) × (accept d xs ≡ some f) ×
-      (sheetAt (suc at) (ns ++ (length xs ∷ xs)) f rest ≡ Read.good ms e)
-  sheet-goes ms e h g = first (lineOf (d .due) bs) refl
-    where
-      first : (v : Value) → lineOf (d .due) bs ≡ v →
-          (xs : List ℕ) × (rest : List ℕ) × (f : Draft) × (lineOf (d .due) bs ≡ has xs rest) × (accept d xs ≡ some f) ×
-          (sheetAt (suc at) (ns ++ (length xs ∷ xs)) f rest ≡ Read.good ms e)
-      first bad p = let z : Read.bad at ≡ Read.good ms e = sym (sheet-bad h p) ∙ g in never cc
-      first (has xs rest) p = then (accept d xs) refl
-        where
-          then : (o : Option Draft) → accept d xs ≡ o →
-              (xs : List ℕ) × (rest : List ℕ) × (f : Draft) × (lineOf (d .due) bs ≡ has xs rest) × (accept d xs ≡ some f) ×
-              (sheetAt (suc at) (ns ++ (length xs ∷ xs)) f rest ≡ Read.good ms e)
-          then none q = let z : Read.unfit at ≡ Read.good ms e = sym (sheet-unfit xs rest p q) ∙ g in never cc
-          then (some f) q = (xs, rest, f, p, q, sym (sheet-fit xs rest f p q) ∙ g)

@@ -1,18 +1,20 @@
 -- Laws of the numbers of a value as a loop reads them: what was read so far, put before what is left, is the value.
-use Prim.Native.Nat.{ℕ, _+_, _≤_, _<_}
+use Prim.Native.Nat.{ℕ, _+_, _*_, _≤_, _<_, max}
 use native.Mathlib.Omega.{arith}
+use native.Mathlib.Decide.{decLe}
 use mathlib.Core.Path.{_≡_, refl, sym, ap, _∙_}
 use mathlib.Core.Option.{Option, none, some}
 use mathlib.Core.List.{List, [], _∷_, _++_, append-assoc}
-use lib.ListN.{length, drop, getD, length-drop, drop-of-length-le}
-use lib.Seq.{drop-drop}
+use lib.ListN.{length, drop, getD, set, length-set, length-drop, drop-of-length-le}
+use lib.Seq.{drop-drop, paste-zero}
 use borrow.Author.Tests.{le-leb, lt-leb}
 use Rattle.lines.specs.Basics.{never}
 use Rattle.sheet.specs.Sheet.{newline, space, numeral}
+use Rattle.sheet.specs.Sheet.Numerals.{digits-some, digits-numeral}
 use Rattle.sheet.specs.declared.text.Numeral.{Numeral}
 use Rattle.sheet.specs.declared.text.Line.{Line}
-use Rattle.sheet.specs.Text.{digitsOf, numberAt, Value, bad, has, valueOf, wordsOf, prefixed, Holds, kept, lost, countedTo, Told}
-use Rattle.lines.specs.Limits.{maxLine}
+use Rattle.sheet.specs.Text.{digitsOf, numberAt, Value, bad, has, valueOf, wordsOf, prefixed, maxWord, lowOf, Roomy, countedTo, Told}
+use Rattle.sheet.specs.Text.Rooms.{Keeps, keeps-none, keeps-more}
 use Rattle.sheet.specs.Text.Digits.{rest-at, digits-short}
 use Rattle.sheet.specs.Text.Values.{number-end, number-lf, number-space, number-other, number-bad, value-empty, value-nothing, value-words, words-nothing}
 
@@ -38,12 +40,14 @@ no-number s i p = at (numeral (digitsOf (drop i s))) refl
     at none q = q
     at (some w) q = let h : _≡_ {A = Numeral} (Numeral.Value w (i + length (digitsOf (drop i s)))) Numeral.Bad = rw (q, numberAt) at p in never cc
 
--- the end of a number is inside
-pub number-within : (s : List ℕ) (i v e : ℕ) → i ≤ length s → numberAt s i ≡ Numeral.Value v e → (i ≤ e) × (e ≤ length s)
+-- the end of a number is after it, and inside
+pub number-within : (s : List ℕ) (i v e : ℕ) → i ≤ length s → numberAt s i ≡ Numeral.Value v e → (i < e) × (e ≤ length s)
 number-within s i v e h p =
-    let q = number-says s i v e p .1 in
+    let (n, q) = number-says s i v e p in
     let l = digits-short (drop i s) in
     let d = length-drop i s in
+    let k = digits-some v in
+    let j = ap (λ (x : List ℕ). length x) (digits-numeral (digitsOf (drop i s)) v n) in
     (omega arith, omega arith)
 
 -- ---- the loop
@@ -140,19 +144,81 @@ module _ {P : List ℕ → Type 0} (s : List ℕ) (at i : ℕ) (r : Reading P s 
       reading-lf q =
           sym (r .left) ∙ ap (prefixed (r .acc)) (number-lf (drop i s) (drop (e + 1) s) v says (next-is h ∙ ap (λ (x : ℕ). x ∷ drop (e + 1) s) q))
 
--- ---- what is told of a line whose numbers a room holds
+-- ---- what is told of a line whose numbers are kept
+
+-- n numbers so far, each of which takes two bytes, are kept
+pub record Keeping (s : List ℕ) (at : ℕ) (before : List ℕ) (w : ℕ) (out : List ℕ) (i n top : ℕ) : Type 0 where
+  pub half : 2 * (w + n) ≤ i
+  pub long : length out ≡ length before
+  pub reading : Reading (Keeps before w out n top) s at i
+
+-- at the start: no LF stands there
+pub keeping-start : (s : List ℕ) (at : ℕ) (before : List ℕ) (w : ℕ) → Roomy s at before w → at < length s → (getD s at 0 ≡ newline → ⊥) →
+    Keeping s at before w before at 0 0
+keeping-start s at before w (a, b, c) h n = record {
+  half = omega arith;
+  long = refl;
+  reading = reading-start (Keeps before w before 0 0) s at (keeps-none before w) h n;
+}
 
 -- a line without numbers
-pub told-empty : (s : List ℕ) (at : ℕ) (room : List ℕ) → length room ≡ maxLine → at < length s → getD s at 0 ≡ newline →
-    Told (valueOf (drop at s)) s at (Line.Whole 0 (at + 1)) room
-told-empty s at room l h e = (omega arith, omega arith, omega arith, l, reading-empty s at h e)
+pub told-empty : (s : List ℕ) (at : ℕ) (before : List ℕ) (w : ℕ) → Roomy s at before w → at < length s → getD s at 0 ≡ newline →
+    Told (valueOf (drop at s)) s at before w (Line.Whole 0 (at + 1)) before
+told-empty s at before w (a, b, c) h e = record {
+  passed = omega arith;
+  inside = omega arith;
+  half = omega arith;
+  numbers = [];
+  value = reading-empty s at h e;
+  counted = refl;
+  placed = paste-zero before w [];
+}
 
--- the LF comes after a number
-pub told-lf : (s : List ℕ) (at i : ℕ) {P : List ℕ → Type 0} (r : Reading P s at i) (v e : ℕ) → Numeral.Value v e ≡ numberAt s i → e < length s →
-    (m : ℕ) (room : List ℕ) → Holds m room (r .acc ++ (v ∷ [])) → getD s e 0 ≡ newline → Told (valueOf (drop at s)) s at (countedTo m (e + 1)) room
-unfolding countedTo
-told-lf s at i r v e p h m room (kept a l k) q =
-    rw (le-leb m maxLine a, countedTo)
-    (a, let b = passed s at i r v e p in omega arith, omega arith, l, reading-lf s at i r v e p h q ∙ ap (λ (x : List ℕ). has x (drop (e + 1) s)) k)
-told-lf s at i r v e p h m room (lost a b) q =
-    rw (lt-leb m maxLine (omega arith), countedTo) (r .acc ++ (v ∷ []), drop (e + 1) s, reading-lf s at i r v e p h q, b)
+module _ (s : List ℕ) (at : ℕ) (before : List ℕ) (w : ℕ) (room : Roomy s at before w) (out : List ℕ) (i n top : ℕ) (k : Keeping s at before w out i n top)
+    (v e : ℕ) (p : Numeral.Value v e ≡ numberAt s i) (h : e < length s) where
+  -- there is room for the number
+  pub keeping-room : w + n < length before
+  keeping-room = let a = k .half in let b = number-within s i v e (k .reading .inside) (sym p) in let (c, d, f) = room in omega arith
+
+  module _ (x : ℕ) (o : x ≡ lowOf v) (more : ℕ) (m : more ≡ max top v) where
+    -- the numbers with one more
+    its-numbers : Keeps before w (set out (w + n) x) (n + 1) more (k .reading .acc ++ (v ∷ []))
+    its-numbers = keeps-more before w out n top v x more (k .reading .acc) keeping-room o m (k .reading .holds)
+
+    its-half : 2 * (w + (n + 1)) ≤ e + 1
+    its-half = let a = k .half in let b = number-within s i v e (k .reading .inside) (sym p) in omega arith
+
+    -- a space comes after the number
+    pub keeping-more : getD s e 0 ≡ space → Keeping s at before w (set out (w + n) x) (e + 1) (n + 1) more
+    keeping-more q = record {
+      half = its-half;
+      long = length-set out (w + n) x ∙ k .long;
+      reading = reading-more s at i (k .reading) v e p h (Keeps before w (set out (w + n) x) (n + 1) more) its-numbers q;
+    }
+
+    -- the LF comes after the number
+    pub told-lf : getD s e 0 ≡ newline → Told (valueOf (drop at s)) s at before w (countedTo (n + 1) more (e + 1)) (set out (w + n) x)
+    unfolding countedTo
+    told-lf q = by (decLe more maxWord)
+      where
+        ended : valueOf (drop at s) ≡ has (k .reading .acc ++ (v ∷ [])) (drop (e + 1) s)
+        ended = reading-lf s at i (k .reading) v e p h q
+
+        by : Dec (more ≤ maxWord) → Told (valueOf (drop at s)) s at before w (countedTo (n + 1) more (e + 1)) (set out (w + n) x)
+        by (yes l) =
+            rw (le-leb more maxWord l, countedTo) (record {
+              passed = let b = passed s at i (k .reading) v e p in omega arith;
+              inside = omega arith;
+              half = its-half;
+              numbers = k .reading .acc ++ (v ∷ []);
+              value = ended;
+              counted = its-numbers .tally .counted;
+              placed = its-numbers .held l;
+            })
+        by (no l) =
+            rw (lt-leb more maxWord (omega arith), countedTo) (record {
+              numbers = k .reading .acc ++ (v ∷ []);
+              rest = drop (e + 1) s;
+              value = ended;
+              wide = its-numbers .tally .wide (omega arith);
+            })

@@ -5,14 +5,17 @@ use borrow.Author.Needs.{needs}
 use Rattle.table_runs.proofs.case_at.Statement.{statement}
 use Rattle.table_runs.proofs.case_at.Tie as tie
 
-word-end-requires : tie.Need-word-end-requires
-word-end-requires c κs = search needs
-
 returns : tie.Need-returns
 returns c = search needs
 
+find-requires : tie.Need-find-requires
+find-requires c κs = search needs
+
 returns-2 : tie.Need-returns-2
 returns-2 c = search needs
+
+returns-3 : tie.Need-returns-3
+returns-3 c = search needs
 
 sub-write-all : tie.Need-sub-write-all
 sub-write-all c = search needs
@@ -38,14 +41,16 @@ table-of-requires c κs = search needs
 same-length : tie.Need-same-length
 same-length c = search needs
 
-returns-3 : tie.Need-returns-3
-returns-3 c = search needs
+returns-4 : tie.Need-returns-4
+returns-4 c = search needs
 
 slice-reshare-prefix-check-table : tie.Need-slice-reshare-prefix-check-table
 slice-reshare-prefix-check-table c = search needs
 
 slice-aggregate-check-table : tie.Need-slice-aggregate-check-table
-slice-aggregate-check-table c = sym (length-take-le (c .before .before .before .before .table-of .result .value) (c .before .before .before .before .table-of .last .1 .1 .1 .0) (c .before .if3 .left))
+slice-aggregate-check-table c =
+    let made = c .before .before .before .before .table-of in
+    sym (length-take-le (made .result .value) (made .last .1 .1 .1 .0) (c .before .if4 .left))
 
 check-table-requires : tie.Need-check-table-requires
 check-table-requires c κs = search needs
@@ -62,16 +67,17 @@ write-all-requires-2 c κs = search needs
 same-length-2 : tie.Need-same-length-2
 same-length-2 c = search needs
 
-returns-4 : tie.Need-returns-4
-returns-4 c = search needs
+returns-5 : tie.Need-returns-5
+returns-5 c = search needs
 
 pub case-at-spec : {M : Type 1} → statement M
 case-at-spec =
     tie.close
     (tie.spec
-    word-end-requires
     returns
+    find-requires
     returns-2
+    returns-3
     sub-write-all
     part-write-all-start
     part-write-all-end
@@ -80,7 +86,7 @@ case-at-spec =
     field-requires
     table-of-requires
     same-length
-    returns-3
+    returns-4
     slice-reshare-prefix-check-table
     slice-aggregate-check-table
     check-table-requires
@@ -88,4 +94,4 @@ case-at-spec =
     slice-aggregate-write-all
     write-all-requires-2
     same-length-2
-    returns-4)
+    returns-5)

@@ -1,4 +1,5 @@
 -- `shift` meets its contract: the roots are cut off, then grown.
+use Rattle.forest.proofs.Growing.{untold}
 use Rattle.forest.proofs.Holding.{shift-some, shift-shifts}
 use Rattle.forest.specs.Grows.{SomeSource, Grows}
 use Rattle.forest.specs.Words.{at, poke}
@@ -36,7 +37,7 @@ returns c =
     let row = now (s .args .row) in
     let w = now (s .args .room) in
     let v = the-grow .last .0 in
-    shift-shifts w row v (subst (λ (l : List ℕ). Grows l row 0 (at w 0 1) v) (the-put .ensures) (subst (λ (z : ℕ). Grows (the-put .last .0) row 0 z v) (the-get .ensures .0) (the-grow .ensures)))
+    shift-shifts w row v (subst (λ (l : List ℕ). Grows l row 0 (at w 0 1) v) (the-put .ensures) (subst (λ (z : ℕ). Grows (the-put .last .0) row 0 z v) (the-get .ensures .0) (untold (the-grow .ensures))))
 
 pub shift-spec : {M : Type 1} → statement M
 shift-spec = tie.close (tie.spec get-requires put-requires grow-requires same-length returns)

@@ -1,6 +1,6 @@
 -- `sprout` meets its contract: by whether the row has a target.
 use Rattle.forest.proofs.Growing.{source-in, state-in}
-use Rattle.forest.proofs.Sprouting.{gone-grows, grown-grows, source-left, some-left, some-two}
+use Rattle.forest.proofs.Sprouting.{gone-grows, grown-grows, source-left, some-left, some-two, state-of}
 use Rattle.forest.specs.Grows.{Grows, rooted}
 use Rattle.forest.specs.Joins.{SomeTwo, Joins}
 use Rattle.forest.specs.Words.{at}
@@ -81,36 +81,38 @@ lay-requires c κs =
     let K = c .before .before .before .take .ensures (S .P) (source-left w (S .m) a (S .f) (S .to) (S .P) (S .holds)) in
     (K .inside, omega (arith, K .len, S .holds .words), omega (arith, the-entry .ensures .1), omega (arith, source-in w row a nz S, S .holds .words))
 
-get-requires-2 : tie.Need-get-requires-2
-get-requires-2 c κs = search needs
+sub-insert : tie.Need-sub-insert
+sub-insert c = search needs
 
-join-requires : tie.Need-join-requires
-join-requires c κs =
-    let the-entry = c .before .before .before .before .before .before .before .before .before .before .before .before .entry in
-    let the-take = c .before .before .before .before .before .before .before .before .before .take in
-    let the-lay = c .before .before .before .before .before .lay in
-    let s = c .before .before .before .before .before .before .before .before .before .before .before .before .before .before .before .before .before .before in
+insert-requires : tie.Need-insert-requires
+insert-requires c κs =
+    let the-entry = c .before .before .before .before .before .before .before .before .before .before .entry in
+    let the-take = c .before .before .before .before .before .before .before .take in
+    let the-lay = c .before .before .before .lay in
+    let s = c .before .before .before .before .before .before .before .before .before .before .before .before .before .before .before .before in
     let S = s .pre .0 in
     let w = now (s .args .room) in
-    let row = now (s .args .row) in
     let a = s .args .a in
-    subst⁻¹ (λ (z : ℕ). SomeTwo (the-lay .last .0) 0 1 z (the-take .result)) (c .before .get2 .ensures .0)
-    (subst⁻¹ (λ (l : List ℕ). SomeTwo l 0 1 (at l 0 1) (the-take .result)) (the-lay .ensures) (some-two S (the-take .last .0) (the-take .result) (the-entry .result - 1) (the-take .ensures)))
+    let K = the-take .ensures (S .P) (source-left w (S .m) a (S .f) (S .to) (S .P) (S .holds)) in (
+      subst⁻¹ (λ (l : List ℕ). SomeTwo l 0 1 (at l 0 1) (the-take .result)) (the-lay .ensures)
+          (some-two S (the-take .last .0) (the-take .result) (the-entry .result - 1) (the-take .ensures)),
+      K .live,
+      subst⁻¹ (λ (l : List ℕ). at l (the-take .result) 0 ≡ the-entry .result - 1) (the-lay .ensures)
+          (state-of (the-take .last .0) (the-take .result) (the-entry .result - 1) a (K .inside)),
+    )
 
 same-length-2 : tie.Need-same-length-2
 same-length-2 c = search needs
 
 returns-2 : tie.Need-returns-2
 returns-2 c =
-    let the-get = c .before .before .before .before .before .before .before .before .before .before .before .before .before .before .before .before .before .get in
-    let the-entry = c .before .before .before .before .before .before .before .before .before .before .before .before .before .before .before .entry in
-    let the-if = c .before .before .before .before .before .before .before .before .before .before .before .before .before .before .if1 in
-    let the-take = c .before .before .before .before .before .before .before .before .before .before .before .before .take in
-    let the-lay = c .before .before .before .before .before .before .before .before .lay in
-    let the-get2 = c .before .before .before .before .get2 in
-    let the-join = c .before .before .join in
-    let s = c .before .before .before .before .before .before .before .before .before .before .before .before .before .before .before .before .before .before .before .before .before in
-    let S = s .pre .0 in
+    let the-get = c .before .before .before .before .before .before .before .before .before .before .before .before .before .before .before .get in
+    let the-entry = c .before .before .before .before .before .before .before .before .before .before .before .before .before .entry in
+    let the-if = c .before .before .before .before .before .before .before .before .before .before .before .before .if1 in
+    let the-take = c .before .before .before .before .before .before .before .before .before .before .take in
+    let the-lay = c .before .before .before .before .before .before .lay in
+    let the-insert = c .before .before .insert in
+    let s = c .before .before .before .before .before .before .before .before .before .before .before .before .before .before .before .before .before .before .before in
     let w = now (s .args .room) in
     let row = now (s .args .row) in
     let a = s .args .a in
@@ -118,10 +120,9 @@ returns-2 c =
     let U = the-entry .ensures .0 ∙ ap (λ (i : ℕ). getD row i 0) (the-get .ensures .0) in
     let p = the-take .result in
     let v = the-take .last .0 in
-    let u = the-join .last .0 in
+    let u = the-insert .last .0 in
     grown-grows w row a nz (s .pre .2) (λ z. the-if .left (U ∙ z)) v p (the-take .ensures) u
-    (subst (λ (l : List ℕ). Joins l 0 1 (at l 0 1) p u) (the-lay .ensures ∙ ap (λ (z : ℕ). rooted v p (z - 1) a) U)
-    (subst (λ (z : ℕ). Joins (the-lay .last .0) 0 1 z p u) (the-get2 .ensures .0) (the-join .ensures)))
+    (subst (λ (l : List ℕ). Joins l 0 1 (at l 0 1) p u) (the-lay .ensures ∙ ap (λ (z : ℕ). rooted v p (z - 1) a) U) (the-insert .ensures))
 
 pub sprout-spec : {M : Type 1} → statement M
 sprout-spec =
@@ -137,7 +138,7 @@ sprout-spec =
     take-requires
     sub-lay
     lay-requires
-    get-requires-2
-    join-requires
+    sub-insert
+    insert-requires
     same-length-2
     returns-2)

@@ -1,7 +1,7 @@
 -- `line_fits` meets its contract, kind of line by kind of line.
 use borrow.Author.Tests.{lt-ltb, le-ltb}
 use borrow.Author.Needs.{needs}
-use Rattle.lines.specs.Shape.{fitsShape}
+use Rattle.lines.specs.Shape.{fitsDue}
 use Rattle.lines.specs.Limits.{maxRules}
 use Rattle.lines.proofs.line.line_fits.Statement.{statement}
 use Rattle.lines.proofs.line.line_fits.Tie as tie
@@ -58,44 +58,44 @@ enum-told-9 : tie.Need-enum-told-9
 enum-told-9 c = search needs
 
 returns : tie.Need-returns
-unfolding fitsShape
-returns c = rw (c .before .enum-told .given .1, fitsShape) (c .fits-one .ensures)
+unfolding fitsDue
+returns c = rw (c .before .enum-told .given .1, fitsDue) (c .fits-one .ensures)
 
 returns-2 : tie.Need-returns-2
-unfolding fitsShape
-returns-2 c = rw (c .before .enum-told2 .given .1, fitsShape) (c .fits-one2 .ensures)
+unfolding fitsDue
+returns-2 c = rw (c .before .enum-told2 .given .1, fitsDue) (c .fits-one2 .ensures)
 
 returns-3 : tie.Need-returns-3
-unfolding fitsShape
-returns-3 c = rw (c .before .enum-told3 .given .1, fitsShape) (c .fits-one3 .ensures)
+unfolding fitsDue
+returns-3 c = rw (c .before .enum-told3 .given .1, fitsDue) (c .fits-one3 .ensures)
 
 returns-4 : tie.Need-returns-4
-unfolding fitsShape
-returns-4 c = rw (c .before .before .before .enum-told4 .given .1, fitsShape) (rw (lt-ltb (c .before .before .before .before .before .before .args .s .rules) maxRules (c .before .if1 .taken)) (c .fits-rule .ensures))
+unfolding fitsDue
+returns-4 c = rw (c .before .before .enum-told4 .given .1, fitsDue) (rw (lt-ltb (c .before .before .before .before .before .args .rules) maxRules (c .before .if1 .taken)) (c .fits-rule .ensures))
 
 returns-5 : tie.Need-returns-5
-unfolding fitsShape
-returns-5 c = rw (c .before .before .enum-told4 .given .1, fitsShape) (rw (le-ltb (c .before .before .before .before .before .args .s .rules) maxRules (c .if1 .left)))
+unfolding fitsDue
+returns-5 c = rw (c .before .enum-told4 .given .1, fitsDue) (rw (le-ltb (c .before .before .before .before .args .rules) maxRules (c .if1 .left)))
 
 returns-6 : tie.Need-returns-6
-unfolding fitsShape
-returns-6 c = rw (c .before .enum-told5 .given .1, fitsShape) (c .fits-one4 .ensures)
+unfolding fitsDue
+returns-6 c = rw (c .before .enum-told5 .given .1, fitsDue) (c .fits-one4 .ensures)
 
 returns-7 : tie.Need-returns-7
-unfolding fitsShape
-returns-7 c = rw (c .before .enum-told6 .given .1, fitsShape) (c .fits-state .ensures)
+unfolding fitsDue
+returns-7 c = rw (c .before .enum-told6 .given .1, fitsDue) (c .fits-state .ensures)
 
 returns-8 : tie.Need-returns-8
-unfolding fitsShape
-returns-8 c = rw (c .before .before .enum-told7 .given .1, fitsShape) (c .fits-item-of .ensures)
+unfolding fitsDue
+returns-8 c = rw (c .before .before .enum-told7 .given .1, fitsDue) (c .fits-item-of .ensures)
 
 returns-9 : tie.Need-returns-9
-unfolding fitsShape
-returns-9 c = rw (c .before .enum-told8 .given .1, fitsShape) (c .fits-go .ensures)
+unfolding fitsDue
+returns-9 c = rw (c .before .enum-told8 .given .1, fitsDue) (c .fits-go .ensures)
 
 returns-10 : tie.Need-returns-10
-unfolding fitsShape
-returns-10 c = rw (c .enum-told9 .given .1, fitsShape)
+unfolding fitsDue
+returns-10 c = rw (c .enum-told9 .given .1, fitsDue)
 
 pub line-fits-spec : {M : Type 1} → statement M
 line-fits-spec =

@@ -1,6 +1,7 @@
 -- `next` meets its contract, kind of line by kind of line.
 use native.Mathlib.Omega.{arith}
 use native.Mathlib.Numerals.{add-one}
+use mathlib.Core.Path.{_∙_}
 use borrow.Author.Needs.{needs}
 use Rattle.lines.specs.Shape.{nextShape}
 use Rattle.lines.proofs.ShapeLaws.{next-end}
@@ -76,6 +77,9 @@ settled-requires-2 c κs = search needs
 enum-told-9 : tie.Need-enum-told-9
 enum-told-9 c = search needs
 
+as-it-was-requires : tie.Need-as-it-was-requires
+as-it-was-requires c κs = c .enum-told9 .given .1
+
 returns : tie.Need-returns
 unfolding nextShape
 returns c = rw (c .before .enum-told .given .1, nextShape) (rw (c .before .before .before .at .ensures) at (c .heading .ensures))
@@ -109,7 +113,9 @@ unfolding nextShape
 returns-8 c = rw (c .before .before .enum-told8 .given .1, nextShape) (rw (c .before .less3 .ensures, c .before .before .before .before .at .ensures, add-one) at (c .settled2 .ensures))
 
 returns-9 : tie.Need-returns-9
-returns-9 c = next-end (c .before .before .before .before .args .s) (c .before .before .before .before .args .numbers .now) (c .enum-told9 .given .1)
+returns-9 c =
+    let a = c .before .before .before .before .before .args in
+    c .as-it-was .ensures ∙ next-end (a .s) (a .numbers .now) (c .before .enum-told9 .given .1)
 
 pub next-spec : {M : Type 1} → statement M
 next-spec =
@@ -138,6 +144,7 @@ next-spec =
     add-settled
     settled-requires-2
     enum-told-9
+    as-it-was-requires
     returns
     returns-2
     returns-3

@@ -5,8 +5,9 @@ use Prim.Native.Nat.{_-_}
 use mathlib.Core.List.{[], _∷_, _++_}
 use mathlib.Core.Path.{sym, ap, _∙_}
 use lib.ListN.{length, drop}
-use Rattle.sheet.specs.Tail.Telling.{Telling, tally-none, telling-start, telling-tally, telling-more, tell-bad}
+use Rattle.sheet.specs.Tail.Telling.{Telling, telling-start, telling-tally, telling-more, tell-bad}
 use Rattle.sheet.specs.Tail.{alone, toldOf}
+use Rattle.sheet.specs.Text.Tallies.{tally-none}
 use Rattle.sheet.specs.Text.{Value, valueOf}
 use Rattle.sheet.specs.Text.Readings.{number-within, reading-empty, reading-nothing, reading-over, reading-bad, reading-end, reading-other, reading-lf}
 use Rattle.sheet.proofs.tail.tell.Statement.{statement}

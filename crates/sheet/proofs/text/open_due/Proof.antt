@@ -87,35 +87,35 @@ enum-told-9 c = search needs
 
 returns : tie.Need-returns
 unfolding key isEnd
-returns c = subst (λ d. Opened (dueOf d) (c .before .before .before .before .before .args .s .now) (c .before .before .before .before .before .args .at) (c .open-line .result)) (sym (c .before .before .enum-told .given .1)) (due-opened Due.terms (c .before .before .before .before .before .args .s .now) (c .before .before .before .before .before .args .at) (c .open-line .result) refl (c .open-line .ensures))
+returns c = subst (λ d. Opened (dueOf d) (c .before .before .before .before .before .args .s .now) (c .before .before .before .before .before .args .at) (c .open-line .result)) (sym (c .before .before .enum-told .given .1)) (due-opened Due.terms (c .before .before .before .before .before .args .s .now) (c .before .before .before .before .before .args .at) (c .open-line .result) (c .before .before .before .before .before .pre) refl (c .open-line .ensures))
 
 returns-2 : tie.Need-returns-2
 unfolding key isEnd
-returns-2 c = subst (λ d. Opened (dueOf d) (c .before .before .before .before .before .args .s .now) (c .before .before .before .before .before .args .at) (c .open-line2 .result)) (sym (c .before .before .enum-told2 .given .1)) (due-opened Due.nonterms (c .before .before .before .before .before .args .s .now) (c .before .before .before .before .before .args .at) (c .open-line2 .result) refl (c .open-line2 .ensures))
+returns-2 c = subst (λ d. Opened (dueOf d) (c .before .before .before .before .before .args .s .now) (c .before .before .before .before .before .args .at) (c .open-line2 .result)) (sym (c .before .before .enum-told2 .given .1)) (due-opened Due.nonterms (c .before .before .before .before .before .args .s .now) (c .before .before .before .before .before .args .at) (c .open-line2 .result) (c .before .before .before .before .before .pre) refl (c .open-line2 .ensures))
 
 returns-3 : tie.Need-returns-3
 unfolding key isEnd
-returns-3 c = subst (λ d. Opened (dueOf d) (c .before .before .before .before .before .args .s .now) (c .before .before .before .before .before .args .at) (c .open-line3 .result)) (sym (c .before .before .enum-told3 .given .1)) (due-opened Due.rules (c .before .before .before .before .before .args .s .now) (c .before .before .before .before .before .args .at) (c .open-line3 .result) refl (c .open-line3 .ensures))
+returns-3 c = subst (λ d. Opened (dueOf d) (c .before .before .before .before .before .args .s .now) (c .before .before .before .before .before .args .at) (c .open-line3 .result)) (sym (c .before .before .enum-told3 .given .1)) (due-opened Due.rules (c .before .before .before .before .before .args .s .now) (c .before .before .before .before .before .args .at) (c .open-line3 .result) (c .before .before .before .before .before .pre) refl (c .open-line3 .ensures))
 
 returns-4 : tie.Need-returns-4
 unfolding key isEnd
-returns-4 c = subst (λ d. Opened (dueOf d) (c .before .before .before .before .before .args .s .now) (c .before .before .before .before .before .args .at) (c .open-line4 .result)) (sym (c .before .before .enum-told4 .given .1)) (due-opened Due.rule (c .before .before .before .before .before .args .s .now) (c .before .before .before .before .before .args .at) (c .open-line4 .result) refl (c .open-line4 .ensures))
+returns-4 c = subst (λ d. Opened (dueOf d) (c .before .before .before .before .before .args .s .now) (c .before .before .before .before .before .args .at) (c .open-line4 .result)) (sym (c .before .before .enum-told4 .given .1)) (due-opened Due.rule (c .before .before .before .before .before .args .s .now) (c .before .before .before .before .before .args .at) (c .open-line4 .result) (c .before .before .before .before .before .pre) refl (c .open-line4 .ensures))
 
 returns-5 : tie.Need-returns-5
 unfolding key isEnd
-returns-5 c = subst (λ d. Opened (dueOf d) (c .before .before .before .before .before .args .s .now) (c .before .before .before .before .before .args .at) (c .open-line5 .result)) (sym (c .before .before .enum-told5 .given .1)) (due-opened Due.states (c .before .before .before .before .before .args .s .now) (c .before .before .before .before .before .args .at) (c .open-line5 .result) refl (c .open-line5 .ensures))
+returns-5 c = subst (λ d. Opened (dueOf d) (c .before .before .before .before .before .args .s .now) (c .before .before .before .before .before .args .at) (c .open-line5 .result)) (sym (c .before .before .enum-told5 .given .1)) (due-opened Due.states (c .before .before .before .before .before .args .s .now) (c .before .before .before .before .before .args .at) (c .open-line5 .result) (c .before .before .before .before .before .pre) refl (c .open-line5 .ensures))
 
 returns-6 : tie.Need-returns-6
 unfolding key isEnd
-returns-6 c = subst (λ d. Opened (dueOf d) (c .before .before .before .before .before .args .s .now) (c .before .before .before .before .before .args .at) (c .open-line6 .result)) (sym (c .before .before .enum-told6 .given .1)) (due-opened Due.state (c .before .before .before .before .before .args .s .now) (c .before .before .before .before .before .args .at) (c .open-line6 .result) refl (c .open-line6 .ensures))
+returns-6 c = subst (λ d. Opened (dueOf d) (c .before .before .before .before .before .args .s .now) (c .before .before .before .before .before .args .at) (c .open-line6 .result)) (sym (c .before .before .enum-told6 .given .1)) (due-opened Due.state (c .before .before .before .before .before .args .s .now) (c .before .before .before .before .before .args .at) (c .open-line6 .result) (c .before .before .before .before .before .pre) refl (c .open-line6 .ensures))
 
 returns-7 : tie.Need-returns-7
 unfolding key isEnd
-returns-7 c = subst (λ d. Opened (dueOf d) (c .before .before .before .before .before .args .s .now) (c .before .before .before .before .before .args .at) (c .open-line7 .result)) (sym (c .before .before .enum-told7 .given .1)) (due-opened Due.item (c .before .before .before .before .before .args .s .now) (c .before .before .before .before .before .args .at) (c .open-line7 .result) refl (c .open-line7 .ensures))
+returns-7 c = subst (λ d. Opened (dueOf d) (c .before .before .before .before .before .args .s .now) (c .before .before .before .before .before .args .at) (c .open-line7 .result)) (sym (c .before .before .enum-told7 .given .1)) (due-opened Due.item (c .before .before .before .before .before .args .s .now) (c .before .before .before .before .before .args .at) (c .open-line7 .result) (c .before .before .before .before .before .pre) refl (c .open-line7 .ensures))
 
 returns-8 : tie.Need-returns-8
 unfolding key isEnd
-returns-8 c = subst (λ d. Opened (dueOf d) (c .before .before .before .before .before .args .s .now) (c .before .before .before .before .before .args .at) (c .open-line8 .result)) (sym (c .before .before .enum-told8 .given .1)) (due-opened Due.go (c .before .before .before .before .before .args .s .now) (c .before .before .before .before .before .args .at) (c .open-line8 .result) refl (c .open-line8 .ensures))
+returns-8 c = subst (λ d. Opened (dueOf d) (c .before .before .before .before .before .args .s .now) (c .before .before .before .before .before .args .at) (c .open-line8 .result)) (sym (c .before .before .enum-told8 .given .1)) (due-opened Due.go (c .before .before .before .before .before .args .s .now) (c .before .before .before .before .before .args .at) (c .open-line8 .result) (c .before .before .before .before .before .pre) refl (c .open-line8 .ensures))
 
 returns-9 : tie.Need-returns-9
 unfolding isEnd

@@ -18,30 +18,30 @@ item-dot-requires : tie.Need-item-dot-requires
 item-dot-requires c κs = search needs
 
 add-symbol-at : tie.Need-add-symbol-at
-add-symbol-at c = let h = c .before .before .before .pre .2 .line .dot-at in let e = c .item-dot .ensures in omega (arith, c .before .before .shared-slice-known .given (c .before .before .before .args .at + 2))
+add-symbol-at c = let h = c .before .before .before .before .pre .2 .line .dot-at in let e = c .item-dot .ensures in omega (arith, c .before .before .before .shared-slice-known .given (c .before .before .before .before .args .at + 2))
 
 symbol-at-requires : tie.Need-symbol-at-requires
-symbol-at-requires c κs = let h = c .before .before .before .pre .2 .within .rule-in in let e = c .before .item-rule .ensures in let n = c .before .before .before .pre .0 .rules-are in (c .before .before .before .pre .0, omega arith)
+symbol-at-requires c κs = let h = c .before .before .before .before .pre .2 .within .rule-in in let e = c .before .item-rule .ensures in let n = c .before .before .before .before .pre .0 .rules-are in (c .before .before .before .before .pre .0, omega arith)
 
-ahead-set-requires : tie.Need-ahead-set-requires
-ahead-set-requires c κs = search needs
+set-at-requires : tie.Need-set-at-requires
+set-at-requires c κs = search needs
 
 returns : tie.Need-returns
-returns c = λ b (more, e). let S = c .before .before .before .before .before .before .before in
+returns c = λ b (more, e). let S = c .before .before .before .before .before .before .before .before in
     let g = grammarIn (S .args .table .now) in
     let i = itemIn (S .args .table .now) (S .args .at) in
     let q = next-symbol g i (c .before .before .before .before .before .item-rule .ensures) (c .before .before .before .before .item-dot .ensures) (c .before .before .before .symbol-at .ensures) in
-    asks-own (next-none g i e (held-formed (S .pre .0)) (q ∙ (c .before .if1 .taken ∙ S .pre .0 .terms-are))) (c .ahead-set .ensures)
+    asks-own (next-none g i e (held-formed (S .pre .0)) (q ∙ (c .before .if1 .taken ∙ S .pre .0 .terms-are))) (c .set-at .ensures)
 
 begins-requires : tie.Need-begins-requires
-begins-requires c κs = let S = c .before .before .before .before .before .before in
+begins-requires c κs = let S = c .before .before .before .before .before .before .before in
     let t = S .pre .0 .terms-are in
     let m = S .pre .2 .terms-in in
     let h = symbol-below (S .pre .0) (c .before .before .before .before .item-rule .result) (c .before .before .before .item-dot .result + 1) (c .before .before .symbol-at .ensures) in
     (omega arith, omega arith)
 
 returns-2 : tie.Need-returns-2
-returns-2 c = λ b (more, e). let S = c .before .before .before .before .before .before .before in
+returns-2 c = λ b (more, e). let S = c .before .before .before .before .before .before .before .before in
     let g = grammarIn (S .args .table .now) in
     let i = itemIn (S .args .table .now) (S .args .at) in
     let x = c .before .before .before .symbol-at .result in
@@ -62,7 +62,7 @@ asked-set-spec =
     item-dot-requires
     add-symbol-at
     symbol-at-requires
-    ahead-set-requires
+    set-at-requires
     returns
     begins-requires
     returns-2)

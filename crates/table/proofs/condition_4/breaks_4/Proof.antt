@@ -10,19 +10,19 @@ use Rattle.table.proofs.condition_4.breaks_4.Tie as tie
 use Rattle.table.proofs.condition_4.breaks_4.Statement.{statement}
 
 abbrev Inv-loop : tie.InvT-loop
-Inv-loop table rule-at state-at sizes firsts s₀ s = (s ≤ sizes .states) × KeptBelow (tableIn table) 4 s
+Inv-loop table rule-at state-at sizes sets firsts s₀ s = (s ≤ sizes .states) × KeptBelow (tableIn table) 4 s
 
 abbrev μ-loop : tie.MeasureT-loop
-μ-loop table rule-at state-at sizes firsts s₀ s = sizes .states - s
+μ-loop table rule-at state-at sizes sets firsts s₀ s = sizes .states - s
 
 loop-holds : tie.Need-loop-holds Inv-loop μ-loop
 loop-holds c = (omega arith, below-none _)
 
 keeps-4-requires : tie.Need-keeps-4-requires Inv-loop μ-loop
-keeps-4-requires c κs = let S = c .before .before .before .before in (S .pre .0, S .pre .1, S .pre .2, S .pre .3, S .pre .4, c .if1 .taken)
+keeps-4-requires c κs = let S = c .before .before .before .before .before in (S .pre .0, S .pre .1, S .pre .2, S .pre .3, S .pre .4, c .if1 .taken, S .pre .5)
 
 returns : tie.Need-returns Inv-loop μ-loop
-returns c = let S = c .before .before .before .before .before .before in
+returns c = let S = c .before .before .before .before .before .before .before in
     let e = S .pre .1 .states-are in
     let l = c .before .before .if1 .taken in
     broken-told (c .before .before .before .before .loop .inv .1) (omega arith) (c .before .keeps-4 .ensures) (not-true _ (c .if2 .taken))
@@ -37,7 +37,7 @@ loop-again : tie.Need-loop-again Inv-loop μ-loop
 loop-again c = let l = c .before .before .if1 .taken in (omega arith, below-more _ _ (c .before .before .before .before .loop .inv .1) (c .before .keeps-4 .ensures .holds (not-false _ (c .if2 .left))))
 
 returns-2 : tie.Need-returns-2 Inv-loop μ-loop
-returns-2 c = let S = c .before .before .before .before in
+returns-2 c = let S = c .before .before .before .before .before in
     let e = S .pre .1 .states-are in
     let l = c .if1 .left in
     kept-all (c .before .before .loop .inv .1) (omega arith)

@@ -12,24 +12,25 @@ use Rattle.table.specs.Items.Held.{item-here, item-on}
 use Rattle.table.specs.Places.Step.{item-first}
 use Rattle.table.specs.Places.{tableIn, grammarIn, itemPlace}
 use Rattle.table.proofs.condition_4.gather.Tie as tie
+use Rattle.table.proofs.SetsNoted.{noted-here}
 use Rattle.table.proofs.Rows.{rows-none, rows-noted, noted-length}
 use Rattle.table.proofs.condition_4.gather.Statement.{statement}
 
 abbrev Inv-loop : tie.InvT-loop
-Inv-loop table rule-at state-at sizes firsts s asked₀ given₀ n at₀ k₀ asked given at k = (k ≤ n) × (at ≡ itemPlace (getD state-at s 0 + 3) (stateAt (tableIn table) s .items) k) × (length asked ≡ maxNonterms) × (length given ≡ maxRules) ×
+Inv-loop table rule-at state-at sizes sets firsts s asked₀ given₀ n at₀ k₀ asked given at k = (k ≤ n) × (at ≡ itemPlace (getD state-at s 0 + 3) (stateAt (tableIn table) s .items) k) × (length asked ≡ maxNonterms) × (length given ≡ maxRules) ×
     Asked (grammarIn table) (stateAt (tableIn table) s .items) k asked × Given (grammarIn table) (stateAt (tableIn table) s .items) k given
 
 abbrev μ-loop : tie.MeasureT-loop
-μ-loop table rule-at state-at sizes firsts s asked₀ given₀ n at₀ k₀ asked given at k = n - k
+μ-loop table rule-at state-at sizes sets firsts s asked₀ given₀ n at₀ k₀ asked given at k = n - k
 
 item-count-requires : tie.Need-item-count-requires Inv-loop μ-loop
-item-count-requires c κs = (c .before .pre .1, c .before .pre .3)
+item-count-requires c κs = (c .before .before .pre .1, c .before .before .pre .3)
 
 first-item-requires : tie.Need-first-item-requires Inv-loop μ-loop
-first-item-requires c κs = (c .before .before .pre .1, c .before .before .pre .3)
+first-item-requires c κs = (c .before .before .before .pre .1, c .before .before .before .pre .3)
 
 loop-holds : tie.Need-loop-holds Inv-loop μ-loop
-loop-holds c = let S = c .before .before .before in
+loop-holds c = let S = c .before .before .before .before in
     let H = S .pre .0 in
     let t = tableIn (S .args .table .now) in
     let is = stateAt t (S .args .s) .items in (
@@ -42,19 +43,19 @@ loop-holds c = let S = c .before .before .before in
     )
 
 note-asked-requires : tie.Need-note-asked-requires Inv-loop μ-loop
-note-asked-requires c κs = let S = c .before .before .before .before .before .before in
+note-asked-requires c κs = let S = c .before .before .before .before .before .before .before in
     let n = c .before .before .before .before .item-count .ensures in
     let h = item-here (S .pre .1) (S .args .s) (S .pre .3) (c .before .before .loop .k) (omega arith) (c .before .before .loop .at) (c .before .before .loop .inv .1) in
-    (S .pre .0, S .pre .2, h .held, c .before .before .loop .inv .2)
+    (S .pre .0, S .pre .2, h .held, c .before .before .loop .inv .2, noted-here (S .args .state-at .now) (S .args .sizes) (S .pre .6) (S .args .s) (S .pre .3) (c .before .before .loop .k) (omega arith) (c .before .before .loop .inv .1))
 
 note-given-requires : tie.Need-note-given-requires Inv-loop μ-loop
-note-given-requires c κs = let S = c .before .before .before .before .before .before .before .before in
+note-given-requires c κs = let S = c .before .before .before .before .before .before .before .before .before in
     let n = c .before .before .before .before .before .before .item-count .ensures in
     let h = item-here (S .pre .1) (S .args .s) (S .pre .3) (c .before .before .before .before .loop .k) (omega arith) (c .before .before .before .before .loop .at) (c .before .before .before .before .loop .inv .1) in
-    (S .pre .0, h .held, c .before .before .before .before .loop .inv .3)
+    (S .pre .0, h .held, c .before .before .before .before .loop .inv .3, noted-here (S .args .state-at .now) (S .args .sizes) (S .pre .6) (S .args .s) (S .pre .3) (c .before .before .before .before .loop .k) (omega arith) (c .before .before .before .before .loop .inv .1))
 
 next-item-requires : tie.Need-next-item-requires Inv-loop μ-loop
-next-item-requires c κs = let S = c .before .before .before .before .before .before .before .before .before in
+next-item-requires c κs = let S = c .before .before .before .before .before .before .before .before .before .before in
     let n = c .before .before .before .before .before .before .before .item-count .ensures in
     item-here (S .pre .1) (S .args .s) (S .pre .3) (c .before .before .before .before .before .loop .k) (omega arith) (c .before .before .before .before .before .loop .at) (c .before .before .before .before .before .loop .inv .1) .held
 
@@ -65,7 +66,7 @@ loop-less : tie.Need-loop-less Inv-loop μ-loop
 loop-less c = search needs
 
 loop-again : tie.Need-loop-again Inv-loop μ-loop
-loop-again c = let S = c .before .before .before .before .before .before .before .before .before .before in
+loop-again c = let S = c .before .before .before .before .before .before .before .before .before .before .before in
     let t = tableIn (S .args .table .now) in
     let is = stateAt t (S .args .s) .items in
     let k = c .before .before .before .before .before .before .loop .k in
@@ -80,7 +81,7 @@ loop-again c = let S = c .before .before .before .before .before .before .before
     )
 
 returns : tie.Need-returns Inv-loop μ-loop
-returns c = let S = c .before .before .before .before .before in
+returns c = let S = c .before .before .before .before .before .before in
     let t = tableIn (S .args .table .now) in
     let is = stateAt t (S .args .s) .items in
     let e = c .before .before .before .item-count .ensures in

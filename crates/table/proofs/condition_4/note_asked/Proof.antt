@@ -21,22 +21,22 @@ sub-b-2 : tie.Need-sub-b-2
 sub-b-2 c = search needs
 
 mul-asked : tie.Need-mul-asked
-mul-asked c = let S = c .before .before .before .before .before in let i = itemIn (S .args .table .now) (S .args .at) in let h = symbol-below (S .pre .0) (i .rule) (i .dot) (c .before .before .before .after-dot .ensures) in omega arith
+mul-asked c = let S = c .before .before .before .before .before .before in let i = itemIn (S .args .table .now) (S .args .at) in let h = symbol-below (S .pre .0) (i .rule) (i .dot) (c .before .before .before .after-dot .ensures) in omega arith
 
 element-copy-out-asked : tie.Need-element-copy-out-asked
-element-copy-out-asked c = let S = c .before .before .before .before .before in let i = itemIn (S .args .table .now) (S .args .at) in let h = symbol-below (S .pre .0) (i .rule) (i .dot) (c .before .before .before .after-dot .ensures) in omega arith
+element-copy-out-asked c = let S = c .before .before .before .before .before .before in let i = itemIn (S .args .table .now) (S .args .at) in let h = symbol-below (S .pre .0) (i .rule) (i .dot) (c .before .before .before .after-dot .ensures) in omega arith
 
 asked-set-requires : tie.Need-asked-set-requires
 asked-set-requires c κs = search needs
 
 mul-asked-2 : tie.Need-mul-asked-2
-mul-asked-2 c = let S = c .before .before .before .before .before .before .before in let i = itemIn (S .args .table .now) (S .args .at) in let h = symbol-below (S .pre .0) (i .rule) (i .dot) (c .before .before .before .before .before .after-dot .ensures) in omega arith
+mul-asked-2 c = let S = c .before .before .before .before .before .before .before .before in let i = itemIn (S .args .table .now) (S .args .at) in let h = symbol-below (S .pre .0) (i .rule) (i .dot) (c .before .before .before .before .before .after-dot .ensures) in omega arith
 
 element-write-asked : tie.Need-element-write-asked
-element-write-asked c = let S = c .before .before .before .before .before .before .before in let i = itemIn (S .args .table .now) (S .args .at) in let h = symbol-below (S .pre .0) (i .rule) (i .dot) (c .before .before .before .before .before .after-dot .ensures) in omega arith
+element-write-asked c = let S = c .before .before .before .before .before .before .before .before in let i = itemIn (S .args .table .now) (S .args .at) in let h = symbol-below (S .pre .0) (i .rule) (i .dot) (c .before .before .before .before .before .after-dot .ensures) in omega arith
 
 returns : tie.Need-returns
-returns c = let S = c .before .before .before .before .before .before .before in
+returns c = let S = c .before .before .before .before .before .before .before .before in
     let g = grammarIn (S .args .table .now) in
     let i = itemIn (S .args .table .now) (S .args .at) in
     let x = c .before .before .before .before .before .after-dot .result in
@@ -48,7 +48,7 @@ returns c = let S = c .before .before .before .before .before .before .before in
     asked-joined g i (S .args .asked .now) x (x - S .args .sizes .terms - 1) (c .asked-set .result) (_, f) (omega arith) (omega arith) (c .asked-set .ensures x (_, f))
 
 returns-2 : tie.Need-returns-2
-returns-2 c = let S = c .before .before .before .before in
+returns-2 c = let S = c .before .before .before .before .before in
     let t = S .pre .0 .terms-are in
     let l = c .if1 .left in
     let e = c .before .before .after-dot .ensures in

@@ -1,12 +1,13 @@
 -- `condition_5::all_move` meets its contract: the loop keeps that the items passed move on.
 use Prim.Native.Nat.{ℕ, _+_, _-_, _≤_, _<_}
 use native.Mathlib.Omega.{arith}
-use mathlib.Core.Path.{_≡_, _∙_, sym}
+use mathlib.Core.Path.{_≡_, _∙_, sym, subst}
 use lib.ListN.{getD}
 use borrow.Author.Tests.{not-true, not-false}
 use borrow.Author.Count.{below-none, below-more}
 use borrow.Author.Needs.{needs}
-use Rattle.theory.specs.Table.{stateAt}
+use Rattle.theory.specs.Table.{Item, stateAt, InState}
+use Rattle.table.specs.Members.{mem-at}
 use Rattle.table.specs.Condition5.{Onward}
 use Rattle.table.specs.Items.Held.{item-here, item-on}
 use Rattle.table.specs.Places.Step.{item-first}
@@ -16,11 +17,11 @@ use Rattle.table.proofs.Every.{every-no, every-here, every-yes}
 use Rattle.table.proofs.condition_5.all_move.Statement.{statement}
 
 abbrev Inv-loop : tie.InvT-loop
-Inv-loop table rule-at state-at sizes s n at₀ k₀ at k = (k ≤ n) × (at ≡ itemPlace (getD state-at s 0 + 3) (stateAt (tableIn table) s .items) k) ×
+Inv-loop table rule-at state-at sizes marks s n at₀ k₀ at k = (k ≤ n) × (at ≡ itemPlace (getD state-at s 0 + 3) (stateAt (tableIn table) s .items) k) ×
     ((j : ℕ) → j < k → Onward (tableIn table) s (getD (stateAt (tableIn table) s .items) j noItem))
 
 abbrev μ-loop : tie.MeasureT-loop
-μ-loop table rule-at state-at sizes s n at₀ k₀ at k = n - k
+μ-loop table rule-at state-at sizes marks s n at₀ k₀ at k = n - k
 
 item-count-requires : tie.Need-item-count-requires Inv-loop μ-loop
 item-count-requires c κs = (c .before .pre .1, c .before .pre .3)
@@ -35,7 +36,9 @@ moves-on-requires : tie.Need-moves-on-requires Inv-loop μ-loop
 moves-on-requires c κs = let S = c .before .before .before .before .before in
     let n = c .before .before .before .item-count .ensures in
     let h = item-here (S .pre .1) (S .args .s) (S .pre .3) (c .before .loop .k) (omega arith) (c .before .loop .at) (c .before .loop .inv .1) in
-    (S .pre .0, S .pre .1, S .pre .2, S .pre .3, h .held)
+    let t = tableIn (S .args .table .now) in
+    let is = stateAt t (S .args .s) .items in
+    (S .pre .0, S .pre .1, S .pre .2, S .pre .3, h .held, subst (λ (i : Item). InState t (S .args .s) i) (sym (h .same)) (mem-at is (c .before .loop .k) noItem (omega arith)), S .pre .4, S .pre .5)
 
 returns : tie.Need-returns Inv-loop μ-loop
 returns c = let S = c .before .before .before .before .before .before .before in

@@ -15,13 +15,14 @@ use Rattle.table.proofs.Condition5.{ahead-as, ahead-low, symbol-before,
 use Rattle.table.proofs.Bits.{none-in}
 use Rattle.table.proofs.Inside.{set-inside}
 use Rattle.table.proofs.Clash.{some-in}
+use Rattle.table.proofs.Spotted.{core-in}
 use Rattle.table.proofs.condition_5.comes_back.Statement.{statement}
 
 item-dot-requires : tie.Need-item-dot-requires
 item-dot-requires c κs = search needs
 
 returns : tie.Need-returns
-returns c = let S = c .before .before .before in
+returns c = let S = c .before .before .before .before in
     tells-yes (back-none (tableIn (S .args .table .now)) (S .args .s) (S .args .x) (itemIn (S .args .table .now) (S .args .at)) (sym (c .before .item-dot .ensures) ∙ c .if1 .taken))
 
 item-rule-requires : tie.Need-item-rule-requires
@@ -34,7 +35,7 @@ symbol-at-requires : tie.Need-symbol-at-requires
 symbol-at-requires c κs = search needs
 
 returns-2 : tie.Need-returns-2
-returns-2 c = let S = c .before .before .before .before .before .before in
+returns-2 c = let S = c .before .before .before .before .before .before .before in
     let j = itemIn (S .args .table .now) (S .args .at) in
     tells-no (back-other (tableIn (S .args .table .now)) (S .args .s) (S .args .x) j (λ z. c .before .before .before .if1 .left (c .before .before .before .before .item-dot .ensures ∙ z))
     (λ i g e. c .if2 .taken (symbol-before (grammarIn (S .args .table .now)) i j g (c .before .before .item-rule .ensures) (c .before .before .before .before .item-dot .ensures) (c .before .symbol-at .ensures) ∙ e)))
@@ -43,10 +44,15 @@ sub-set-of : tie.Need-sub-set-of
 sub-set-of c = search needs
 
 set-of-requires : tie.Need-set-of-requires
-set-of-requires c κs = search needs
+set-of-requires c κs = let S = c .before .before .before .before .before .before .before in
+    let ns = S .args .table .now in
+    let (x, y) = core-in (tableIn ns) (S .pre .0 .in-range) (itemIn ns (S .args .at)) (S .pre .5 .within) in
+    let e = c .before .before .item-rule .ensures in
+    let f = c .before .before .before .before .item-dot .ensures in
+    (S .pre .1, S .pre .2, S .pre .3, S .pre .6, S .pre .7, (omega arith, omega arith))
 
 returns-3 : tie.Need-returns-3
-returns-3 c = let S = c .before .before .before .before .before .before .before .before in
+returns-3 c = let S = c .before .before .before .before .before .before .before .before .before in
     let s = S .args .s in
     let t = tableIn (S .args .table .now) in
     let j = itemIn (S .args .table .now) (S .args .at) in
@@ -55,14 +61,14 @@ returns-3 c = let S = c .before .before .before .before .before .before .before 
     tells-no (back-missing t s (S .args .x) j (λ i m. each i m .some-ahead) (λ z. c .before .before .before .before .before .if1 .left (c .before .before .before .before .before .before .item-dot .ensures ∙ z))
     (λ a w. none-in a (subst (λ (z : ℕ). In z a) (c .if3 .taken) (old .shows a (ahead-low t s each (j .rule) (j .dot - 1) a w) w))))
 
-ahead-set-requires : tie.Need-ahead-set-requires
-ahead-set-requires c κs = search needs
+set-at-requires : tie.Need-set-at-requires
+set-at-requires c κs = search needs
 
 within-requires : tie.Need-within-requires
 within-requires c κs = search needs
 
 returns-4 : tie.Need-returns-4
-returns-4 c = let S = c .before .before .before .before .before .before .before .before .before .before in
+returns-4 c = let S = c .before .before .before .before .before .before .before .before .before .before .before in
     let s = S .args .s in
     let t = tableIn (S .args .table .now) in
     let j = itemIn (S .args .table .now) (S .args .at) in
@@ -75,7 +81,7 @@ returns-4 c = let S = c .before .before .before .before .before .before .before 
     let q = sym (symbol-before (t .grammar) i j g (c .before .before .before .before .before .before .item-rule .ensures) (c .before .before .before .before .before .before .before .before .item-dot .ensures) (c .before .before .before .before .before .symbol-at .ensures)) ∙ c .before .before .before .before .if2 .left in
     back-tells t s (S .args .x) j i n g (_, after-of (t .grammar) i (S .args .x) q (λ z. S .pre .4 (z ∙ sym (S .pre .0 .terms-are)))) (λ z. c .before .before .before .before .before .before .before .if1 .left (c .before .before .before .before .before .before .before .before .item-dot .ensures ∙ z))
     (S .pre .2 2 s (lit< tt) (omega arith))
-    (set-inside old (c .before .ahead-set .ensures) (ahead-low t s each (j .rule) (j .dot - 1)) (λ b v. let h = S .pre .5 .within .ahead-in b v in omega arith) (c .within .ensures))
+    (set-inside old (c .before .set-at .ensures) (ahead-low t s each (j .rule) (j .dot - 1)) (λ b v. let h = S .pre .5 .within .ahead-in b v in omega arith) (c .within .ensures))
 
 pub comes-back-spec : {M : Type 1} → statement M
 comes-back-spec =
@@ -90,6 +96,6 @@ comes-back-spec =
     sub-set-of
     set-of-requires
     returns-3
-    ahead-set-requires
+    set-at-requires
     within-requires
     returns-4)

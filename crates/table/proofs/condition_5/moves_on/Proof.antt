@@ -1,21 +1,29 @@
--- `condition_5::moves_on` meets its contract: the item is complete, or has no go line, or the sets tell.
-use Prim.Native.Nat.{ℕ, _+_}
+-- `condition_5::moves_on` meets its contract: the item is complete, or the marks tell.
 use native.Mathlib.Omega.{arith}
-use mathlib.Core.Path.{_∙_, sym, ap}
+use mathlib.Core.Path.{_∙_, sym}
 use lib.Dec.{lit<}
+use lib.ListN.{getD}
 use borrow.Author.Needs.{needs}
-use Rattle.lines.specs.Ranges.Fitting.{ranges-fit}
 use Rattle.table.specs.Items.Held.{state-in}
 use Rattle.table.specs.Items.Dot.{complete-of, after-of}
 use Rattle.table.specs.Items.{itemIn}
 use Rattle.table.specs.Places.Step.{held-formed}
 use Rattle.table.specs.Places.{tableIn}
-use Rattle.table.specs.Tests.Tell.{tells-yes, tells-no}
-use Rattle.table.proofs.condition_5.moves_on.Tie as tie
-use Rattle.table.proofs.Condition5.{ahead-as, ahead-low, onward-complete, onward-lineless, onward-tells}
-use Rattle.table.proofs.Asked.{dot-symbol}
-use Rattle.table.proofs.Inside.{set-inside}
+use Rattle.table.specs.Spots.{coreOf}
+use Rattle.table.specs.Tests.Tell.{tells-yes}
+use Rattle.table.proofs.Condition5.{onward-complete, onward-tells}
+use Rattle.table.proofs.Spotted.{core-in}
 use Rattle.table.proofs.condition_5.moves_on.Statement.{statement}
+use Rattle.table.proofs.condition_5.moves_on.Tie as tie
+
+after-dot-requires : tie.Need-after-dot-requires
+after-dot-requires c κs = search needs
+
+returns : tie.Need-returns
+returns c = let S = c .before .before .before .before in
+    let t = tableIn (S .args .table .now) in
+    let i = itemIn (S .args .table .now) (S .args .at) in
+    tells-yes (onward-complete t (S .args .s) i (complete-of (held-formed (S .pre .0)) i (sym (c .before .before .after-dot .ensures) ∙ (c .if1 .taken ∙ S .pre .0 .terms-are))))
 
 item-rule-requires : tie.Need-item-rule-requires
 item-rule-requires c κs = search needs
@@ -23,73 +31,41 @@ item-rule-requires c κs = search needs
 item-dot-requires : tie.Need-item-dot-requires
 item-dot-requires c κs = search needs
 
-symbol-at-requires : tie.Need-symbol-at-requires
-symbol-at-requires c κs = search needs
+mark-at-requires : tie.Need-mark-at-requires
+mark-at-requires c κs = let S = c .before .before .before .before .before .before in
+    let ns = S .args .table .now in
+    let (r, d) = core-in (tableIn ns) (S .pre .0 .in-range) (itemIn ns (S .args .at)) (S .pre .4 .within) in
+    let e = c .before .item-rule .ensures in
+    let f = c .item-dot .ensures in
+    (omega arith, omega arith)
 
-returns : tie.Need-returns
-returns c = let S = c .before .before .before .before .before .before in
-    let t = tableIn (S .args .table .now) in
-    let i = itemIn (S .args .table .now) (S .args .at) in
-    let q = dot-symbol (t .grammar) i (c .before .before .before .before .item-rule .ensures) (c .before .before .before .item-dot .ensures) (c .before .before .symbol-at .ensures) in
-    tells-yes (onward-complete t (S .args .s) i (complete-of (held-formed (S .pre .0)) i (q ∙ c .if1 .taken ∙ S .pre .0 .terms-are)))
-
-target-requires : tie.Need-target-requires
-target-requires c κs = search needs
+add-result : tie.Need-add-result
+add-result c = search needs
 
 returns-2 : tie.Need-returns-2
-returns-2 c = let S = c .before .before .before .before .before .before .before .before .before in
+returns-2 c = let S = c .before .before .before .before .before .before .before in
+    let s = S .args .s in
     let t = tableIn (S .args .table .now) in
     let i = itemIn (S .args .table .now) (S .args .at) in
-    let x = c .before .before .before .before .before .symbol-at .result in
-    let q = dot-symbol (t .grammar) i (c .before .before .before .before .before .before .before .item-rule .ensures) (c .before .before .before .before .before .before .item-dot .ensures) (c .before .before .before .before .before .symbol-at .ensures) in
-    let e = c .if2 .taken in
-    let m = S .pre .1 .states-are in
-    tells-no (onward-lineless t (S .args .s) i x (_, after-of (t .grammar) i x q (λ z. c .before .before .before .if1 .left (z ∙ sym (S .pre .0 .terms-are)))) (c .before .before .target .ensures .none (λ l. omega arith)))
-
-ahead-set-requires : tie.Need-ahead-set-requires
-ahead-set-requires c κs = search needs
-
-add-set-of : tie.Need-add-set-of
-add-set-of c = let S = c .before .before .before .before .before .before .before .before .before .before in let h = S .pre .4 .line .dot-at in let e = c .before .before .before .before .before .before .before .item-dot .ensures in omega (arith, c .before .before .before .before .before .before .before .before .before .shared-slice-known .given (S .args .at + 2))
-
-set-of-requires : tie.Need-set-of-requires
-set-of-requires c κs = let S = c .before .before .before .before .before .before .before .before .before .before in
-    let e = c .before .if2 .left in
-    let m = S .pre .1 .states-are in
-    let b = c .before .before .before .target .ensures .inside in
-    (S .pre .1, S .pre .2, omega arith)
-
-within-requires : tie.Need-within-requires
-within-requires c κs = search needs
-
-returns-3 : tie.Need-returns-3
-returns-3 c = let S = c .before .before .before .before .before .before .before .before .before .before .before .before in
-    let t = tableIn (S .args .table .now) in
-    let i = itemIn (S .args .table .now) (S .args .at) in
-    let x = c .before .before .before .before .before .before .before .before .symbol-at .result in
-    let to = c .before .before .before .before .before .target .result in
-    let q = dot-symbol (t .grammar) i (c .before .before .before .before .before .before .before .before .before .before .item-rule .ensures) (c .before .before .before .before .before .before .before .before .before .item-dot .ensures) (c .before .before .before .before .before .before .before .before .symbol-at .ensures) in
-    let e = c .before .before .before .if2 .left in
-    let m = S .pre .1 .states-are in
-    let b = c .before .before .before .before .before .target .ensures .inside in
-    let each = state-in (S .pre .1) to (omega arith) .items-in in
-    let new = ahead-as t to (c .before .before .before .before .before .before .before .before .before .before .item-rule .ensures) (ap (λ (n : ℕ). n + 1) (c .before .before .before .before .before .before .before .before .before .item-dot .ensures)) (c .before .set-of .ensures) in
-    onward-tells t (S .args .s) i (ranges-fit t (S .pre .0 .in-range)) (S .pre .4 .within .some-ahead) x to
-    (_, after-of (t .grammar) i x q (λ z. c .before .before .before .before .before .before .if1 .left (z ∙ sym (S .pre .0 .terms-are)))) (c .before .before .before .before .before .target .ensures .here (omega arith)) (S .pre .2 2 to (lit< tt) (omega arith))
-    (set-inside (c .before .before .ahead-set .ensures) new (λ a v. let h = S .pre .4 .within .ahead-in a v in omega arith) (ahead-low t to each (i .rule) (i .dot + 1)) (c .within .ensures))
+    let H = S .pre .1 in
+    let n = H .states-are in
+    let l = S .pre .3 in
+    let r = c .before .before .item-rule .ensures in
+    let d = c .before .item-dot .ensures in
+    onward-tells t s i (S .pre .5) (c .before .before .before .before .before .after-dot .result)
+    (_, after-of (t .grammar) i (c .before .before .before .before .before .after-dot .result) (sym (c .before .before .before .before .before .after-dot .ensures)) (λ z. c .before .before .before .if1 .left (z ∙ sym (S .pre .0 .terms-are))))
+    (S .pre .2 2 s (lit< tt) (omega arith)) (core-in t (H .in-range) i (S .pre .4 .within))
+    (λ g k j m. let b = state-in H s l .gos-in g k .to-in in core-in t (H .in-range) j (state-in H (g .to) (omega arith) .items-in j m) .1)
+    (S .pre .6) (S .pre .7) (c .mark-at .ensures ∙ λ k. getD (S .args .marks .now) (coreOf (r k) (d k)) 0)
 
 pub moves-on-spec : {M : Type 1} → statement M
 moves-on-spec =
     tie.close
     (tie.spec
+    after-dot-requires
+    returns
     item-rule-requires
     item-dot-requires
-    symbol-at-requires
-    returns
-    target-requires
-    returns-2
-    ahead-set-requires
-    add-set-of
-    set-of-requires
-    within-requires
-    returns-3)
+    mark-at-requires
+    add-result
+    returns-2)

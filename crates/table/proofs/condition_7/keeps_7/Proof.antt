@@ -15,16 +15,17 @@ use Rattle.table.specs.Sets.{SetOf}
 use Rattle.table.specs.Places.{grammarIn, tableIn, noItem}
 use Rattle.table.specs.Tests.Tell.{Tells, refutes, tells-no}
 use Rattle.table.specs.Members.{mem-at}
+use Rattle.table.proofs.SetsNoted.{noted-walk}
 use Rattle.table.proofs.Clash.{DoneOn, Apart, none-done, done-same, done-more, apart-here, clash-here, clash-tells, all-apart, done-all}
 use Rattle.table.proofs.SetOf.{set-none}
 use Rattle.table.proofs.condition_7.keeps_7.Statement.{statement}
 use Rattle.table.proofs.condition_7.keeps_7.Tie as tie
 
 abbrev Inv-loop : tie.InvT-loop
-Inv-loop table rule-at state-at sizes s n at₀ set₀ k₀ at set k = AtItem table state-at s n k at × SetOf (DoneOn (grammarIn table) (take k (stateAt (tableIn table) s .items))) (suc (grammarIn table .terms)) set × ((m : ℕ) → m < k → Apart (grammarIn table) (stateAt (tableIn table) s .items) m)
+Inv-loop table rule-at state-at sizes sets s n at₀ set₀ k₀ at set k = AtItem table state-at s n k at × SetOf (DoneOn (grammarIn table) (take k (stateAt (tableIn table) s .items))) (suc (grammarIn table .terms)) set × ((m : ℕ) → m < k → Apart (grammarIn table) (stateAt (tableIn table) s .items) m)
 
 abbrev μ-loop : tie.MeasureT-loop
-μ-loop table rule-at state-at sizes s n at₀ set₀ k₀ at set k = n - k
+μ-loop table rule-at state-at sizes sets s n at₀ set₀ k₀ at set k = n - k
 
 item-count-requires : tie.Need-item-count-requires Inv-loop μ-loop
 item-count-requires c κs = search needs
@@ -33,18 +34,18 @@ first-item-requires : tie.Need-first-item-requires Inv-loop μ-loop
 first-item-requires c κs = search needs
 
 loop-holds : tie.Need-loop-holds Inv-loop μ-loop
-loop-holds c = let S = c .before .before .before in
+loop-holds c = let S = c .before .before .before .before in
     let ns = S .args .table .now in
     (walk-first (c .before .item-count .ensures) (c .first-item .ensures), set-none _ _ (none-done (grammarIn ns) (stateAt (tableIn ns) (S .args .s) .items)), below-none _)
 
 is-complete-requires : tie.Need-is-complete-requires Inv-loop μ-loop
-is-complete-requires c κs = let S = c .before .before .before .before .before in (S .pre .0, walk-here (S .pre .1) (S .args .s) (S .pre .2) (c .before .loop .inv .0) (c .loop-test .taken) .held)
+is-complete-requires c κs = let S = c .before .before .before .before .before .before in (S .pre .0, walk-here (S .pre .1) (S .args .s) (S .pre .2) (c .before .loop .inv .0) (c .loop-test .taken) .held)
 
-ahead-set-requires : tie.Need-ahead-set-requires Inv-loop μ-loop
-ahead-set-requires c κs = let S = c .before .before .before .before .before .before .before in walk-here (S .pre .1) (S .args .s) (S .pre .2) (c .before .before .before .loop .inv .0) (c .before .before .loop-test .taken) .held
+set-at-requires : tie.Need-set-at-requires Inv-loop μ-loop
+set-at-requires c κs = let S = c .before .before .before .before .before .before .before .before in noted-walk (S .args .state-at .now) (S .args .sizes) (S .pre .3) (S .args .s) (S .pre .2) (c .before .before .before .loop .inv .0) (c .before .before .loop-test .taken)
 
 returns : tie.Need-returns Inv-loop μ-loop
-returns c = let S = c .before .before .before .before .before .before .before .before .before in
+returns c = let S = c .before .before .before .before .before .before .before .before .before .before in
     let ns = S .args .table .now in
     let g = grammarIn ns in
     let is = stateAt (tableIn ns) (S .args .s) .items in
@@ -54,11 +55,11 @@ returns c = let S = c .before .before .before .before .before .before .before .b
     let k = c .before .before .before .before .before .loop .k in
     let h = walk-here (S .pre .1) (S .args .s) (S .pre .2) w t in
     let p = subst (Complete g) (h .same) (c .before .before .before .is-complete .ensures .holds (c .before .before .if1 .taken)) in
-    let A = subst (λ i. SetOf (λ a. Mem a (i .ahead)) (suc (g .terms)) (c .before .ahead-set .result)) (h .same) (c .before .ahead-set .ensures) in
+    let A = subst (λ i. SetOf (λ a. Mem a (i .ahead)) (suc (g .terms)) (c .before .set-at .result)) (h .same) (c .before .set-at .ensures) in
     tells-no (λ keeps. clash-here g is k set (omega arith) p A (c .if2 .taken) (all-apart (tableIn ns) (S .args .s) keeps k (omega arith)))
 
 next-item-requires : tie.Need-next-item-requires Inv-loop μ-loop
-next-item-requires c κs = let S = c .before .before .before .before .before .before .before in walk-here (S .pre .1) (S .args .s) (S .pre .2) (c .before .before .before .loop .inv .0) (c .before .before .loop-test .taken) .held
+next-item-requires c κs = let S = c .before .before .before .before .before .before .before .before in walk-here (S .pre .1) (S .args .s) (S .pre .2) (c .before .before .before .loop .inv .0) (c .before .before .loop-test .taken) .held
 
 add-k : tie.Need-add-k Inv-loop μ-loop
 add-k c = let w = c .before .before .before .before .loop .inv .0 .passed in let t = c .before .before .before .loop-test .taken in omega arith
@@ -67,7 +68,7 @@ loop-less : tie.Need-loop-less Inv-loop μ-loop
 loop-less c = let t = c .before .before .before .loop-test .taken in omega arith
 
 loop-again : tie.Need-loop-again Inv-loop μ-loop
-loop-again c = let S = c .before .before .before .before .before .before .before .before in
+loop-again c = let S = c .before .before .before .before .before .before .before .before .before in
     let ns = S .args .table .now in
     let g = grammarIn ns in
     let is = stateAt (tableIn ns) (S .args .s) .items in
@@ -95,7 +96,7 @@ no-shift-requires : tie.Need-no-shift-requires Inv-loop μ-loop
 no-shift-requires c κs = search needs
 
 returns-2 : tie.Need-returns-2 Inv-loop μ-loop
-returns-2 c = let S = c .before .before .before .before .before .before in
+returns-2 c = let S = c .before .before .before .before .before .before .before in
     let ns = S .args .table .now in
     let g = grammarIn ns in
     let is = stateAt (tableIn ns) (S .args .s) .items in
@@ -119,7 +120,7 @@ keeps-7-spec =
     first-item-requires
     loop-holds
     is-complete-requires
-    ahead-set-requires
+    set-at-requires
     returns
     next-item-requires
     add-k

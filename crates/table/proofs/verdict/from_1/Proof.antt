@@ -1,4 +1,4 @@
--- `from_1` tells the first of the first four conditions that is broken, and else hands on.
+-- `from_1` tells the first of the first three conditions that is broken, and else hands on.
 use Rattle.table.specs.Conditions.Kept.{kept-none, kept-next, first-broken}
 use Rattle.table.specs.Places.{tableIn}
 use Rattle.table.proofs.Answered.{broken-answer}
@@ -39,42 +39,18 @@ returns-3 c =
     let h3 = kept-next 2 e h2 (c .before .before .before .before .before .breaks-2 .ensures) (c .before .before .before .if2 .left) in
     broken-answer (S .pre .2) (S .pre .3) (first-broken 3 e h3 (c .before .before .breaks-3 .ensures) (c .if3 .taken))
 
-firsts-requires : tie.Need-firsts-requires
-firsts-requires c κs = search needs
-
-breaks-4-requires : tie.Need-breaks-4-requires
-breaks-4-requires c κs =
-    let S = c .before .before .before .before .before .before .before .before .before .before .before .before in
+from-4-requires : tie.Need-from-4-requires
+from-4-requires c κs =
+    let S = c .before .before .before .before .before .before .before .before .before .before in
     let e = S .pre .0 .states-are in
     let h1 = kept-none (tableIn (S .args .table .now)) in
-    let h2 = kept-next 1 e h1 (c .before .before .before .before .before .before .before .before .before .before .breaks-1 .ensures) (c .before .before .before .before .before .before .before .before .if1 .left) in
-    let h3 = kept-next 2 e h2 (c .before .before .before .before .before .before .before .breaks-2 .ensures) (c .before .before .before .before .before .if2 .left) in
-    let h4 = kept-next 3 e h3 (c .before .before .before .before .breaks-3 .ensures) (c .before .before .if3 .left) in
-    (S .pre .0, S .pre .1, c .before .firsts .ensures, S .pre .2, h4)
+    let h2 = kept-next 1 e h1 (c .before .before .before .before .before .before .before .before .breaks-1 .ensures) (c .before .before .before .before .before .before .if1 .left) in
+    let h3 = kept-next 2 e h2 (c .before .before .before .before .before .breaks-2 .ensures) (c .before .before .before .if2 .left) in
+    let h4 = kept-next 3 e h3 (c .before .before .breaks-3 .ensures) (c .if3 .left) in
+    (S .pre .0, S .pre .1, S .pre .2, S .pre .3, h4)
 
 returns-4 : tie.Need-returns-4
-returns-4 c =
-    let S = c .before .before .before .before .before .before .before .before .before .before .before .before .before .before .before in
-    let e = S .pre .0 .states-are in
-    let h1 = kept-none (tableIn (S .args .table .now)) in
-    let h2 = kept-next 1 e h1 (c .before .before .before .before .before .before .before .before .before .before .before .before .before .breaks-1 .ensures) (c .before .before .before .before .before .before .before .before .before .before .before .if1 .left) in
-    let h3 = kept-next 2 e h2 (c .before .before .before .before .before .before .before .before .before .before .breaks-2 .ensures) (c .before .before .before .before .before .before .before .before .if2 .left) in
-    let h4 = kept-next 3 e h3 (c .before .before .before .before .before .before .before .breaks-3 .ensures) (c .before .before .before .before .before .if3 .left) in
-    broken-answer (S .pre .2) (S .pre .3) (first-broken 4 e h4 (c .before .before .breaks-4 .ensures) (c .if4 .taken))
-
-from-5-requires : tie.Need-from-5-requires
-from-5-requires c κs =
-    let S = c .before .before .before .before .before .before .before .before .before .before .before .before .before .before .before in
-    let e = S .pre .0 .states-are in
-    let h1 = kept-none (tableIn (S .args .table .now)) in
-    let h2 = kept-next 1 e h1 (c .before .before .before .before .before .before .before .before .before .before .before .before .before .breaks-1 .ensures) (c .before .before .before .before .before .before .before .before .before .before .before .if1 .left) in
-    let h3 = kept-next 2 e h2 (c .before .before .before .before .before .before .before .before .before .before .breaks-2 .ensures) (c .before .before .before .before .before .before .before .before .if2 .left) in
-    let h4 = kept-next 3 e h3 (c .before .before .before .before .before .before .before .breaks-3 .ensures) (c .before .before .before .before .before .if3 .left) in
-    let h5 = kept-next 4 e h4 (c .before .before .breaks-4 .ensures) (c .if4 .left) in
-    (S .pre .0, S .pre .1, S .pre .2, S .pre .3, h5)
-
-returns-5 : tie.Need-returns-5
-returns-5 c = search needs
+returns-4 c = search needs
 
 pub from-1-spec : {M : Type 1} → statement M
 from-1-spec =
@@ -86,8 +62,5 @@ from-1-spec =
     returns-2
     breaks-3-requires
     returns-3
-    firsts-requires
-    breaks-4-requires
-    returns-4
-    from-5-requires
-    returns-5)
+    from-4-requires
+    returns-4)

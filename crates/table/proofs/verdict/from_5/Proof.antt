@@ -10,7 +10,7 @@ breaks-5-requires c κs = search needs
 
 returns : tie.Need-returns
 returns c =
-    let S = c .before .before .before .before in
+    let S = c .before .before .before .before .before in
     broken-answer (S .pre .2) (S .pre .3) (first-broken 5 (S .pre .0 .states-are) (S .pre .4) (c .before .before .breaks-5 .ensures) (c .if1 .taken))
 
 breaks-6-requires : tie.Need-breaks-6-requires
@@ -18,7 +18,7 @@ breaks-6-requires c κs = search needs
 
 returns-2 : tie.Need-returns-2
 returns-2 c =
-    let S = c .before .before .before .before .before .before .before in
+    let S = c .before .before .before .before .before .before .before .before in
     let e = S .pre .0 .states-are in
     let h = kept-next 5 e (S .pre .4) (c .before .before .before .before .before .breaks-5 .ensures) (c .before .before .before .if1 .left) in
     broken-answer (S .pre .2) (S .pre .3) (first-broken 6 e h (c .before .before .breaks-6 .ensures) (c .if2 .taken))
@@ -28,7 +28,7 @@ breaks-7-requires c κs = search needs
 
 returns-3 : tie.Need-returns-3
 returns-3 c =
-    let S = c .before .before .before .before .before .before .before .before .before .before in
+    let S = c .before .before .before .before .before .before .before .before .before .before .before in
     let e = S .pre .0 .states-are in
     let h = kept-next 5 e (S .pre .4) (c .before .before .before .before .before .before .before .before .breaks-5 .ensures) (c .before .before .before .before .before .before .if1 .left) in
     let i = kept-next 6 e h (c .before .before .before .before .before .breaks-6 .ensures) (c .before .before .before .if2 .left) in
@@ -36,7 +36,7 @@ returns-3 c =
 
 returns-4 : tie.Need-returns-4
 returns-4 c =
-    let S = c .before .before .before .before .before .before .before .before .before .before in
+    let S = c .before .before .before .before .before .before .before .before .before .before .before in
     let e = S .pre .0 .states-are in
     let h = kept-next 5 e (S .pre .4) (c .before .before .before .before .before .before .before .before .breaks-5 .ensures) (c .before .before .before .before .before .before .if1 .left) in
     let i = kept-next 6 e h (c .before .before .before .before .before .breaks-6 .ensures) (c .before .before .before .if2 .left) in

@@ -79,21 +79,24 @@ note-rule-requires c κs = walk-notable (c .before .before .before .before .befo
 note-state-requires : tie.Need-note-state-requires Inv-loop μ-loop
 note-state-requires c κs = walk-notable (c .before .before .before .before .before .before .before .before .before .before .before .before .loop .inv .1) (c .before .before .before .before .before .before .before .before .before .before .before .loop-test .taken) (c .before .before .before .before .before .before .before .before .before .before .before .before .loop .inv .0)
 
+renewed-requires : tie.Need-renewed-requires Inv-loop μ-loop
+renewed-requires c κs = tt
+
 add-line : tie.Need-add-line Inv-loop μ-loop
-add-line c = let h = c .before .before .before .before .before .before .before .before .before .before .before .before .before .loop .inv .1 .counted in let t = c .before .before .before .before .before .before .before .before .before .before .before .before .loop-test .taken in let i = c .before .before .before .before .before .before .before .before .before .before .before .before .before .loop .inv .0 in omega arith
+add-line c = let h = c .before .before .before .before .before .before .before .before .before .before .before .before .before .before .loop .inv .1 .counted in let t = c .before .before .before .before .before .before .before .before .before .before .before .before .before .loop-test .taken in let i = c .before .before .before .before .before .before .before .before .before .before .before .before .before .before .loop .inv .0 in omega arith
 
 loop-less : tie.Need-loop-less Inv-loop μ-loop
-loop-less c = let t = c .before .before .before .before .before .before .before .before .before .before .before .before .loop-test .taken in let l = c .before .before .before .before .before .before .before .before .before .before .if2 .left in omega arith
+loop-less c = let t = c .before .before .before .before .before .before .before .before .before .before .before .before .before .loop-test .taken in let l = c .before .before .before .before .before .before .before .before .before .before .before .if2 .left in omega arith
 
 loop-again : tie.Need-loop-again Inv-loop μ-loop
-loop-again c = let ns = c .before .before .before .before .before .before .before .before .before .before .before .before .before .before .before .before .before .args .table .now in
-    let p = c .before .before .before .before .before .before .before .before .before .before .before .before .before .loop .at in
-    let n = c .before .before .before .before .before .before .before .before .before .before .before .number .ensures in
-    let l = c .before .before .before .before .before .before .before .before .before .before .if2 .left in (
-      c .before .before .before .before .before .before .before .before .before .before .before .before .before .loop .inv .0,
+loop-again c = let ns = c .before .before .before .before .before .before .before .before .before .before .before .before .before .before .before .before .before .before .args .table .now in
+    let p = c .before .before .before .before .before .before .before .before .before .before .before .before .before .before .loop .at in
+    let n = c .before .before .before .before .before .before .before .before .before .before .before .before .number .ensures in
+    let l = c .before .before .before .before .before .before .before .before .before .before .before .if2 .left in (
+      c .before .before .before .before .before .before .before .before .before .before .before .before .before .before .loop .inv .0,
       walk-is
-          (walk-next (c .before .before .before .before .before .before .before .before .before .before .before .before .before .loop .inv .1) (c .before .before .before .before .before .before .before .before .before .before .before .before .loop-test .taken) (omega arith) _ (part-is ns p (c .before .before .before .before .before .before .before .before .before .before .before .number .result) n) _ (sym (c .before .before .before .before .before .before .before .accept .ensures .0) ∙ c .before .before .before .before .before .accepted .given .1))
-          (ap (λ (x : ℕ). p + 1 + x) (sym n)) (sym (c .before .before .before .before .before .before .before .accept .ensures .1)) (sym (c .before .before .note-rule .ensures)) (sym (c .note-state .ensures)),
+          (walk-next (c .before .before .before .before .before .before .before .before .before .before .before .before .before .before .loop .inv .1) (c .before .before .before .before .before .before .before .before .before .before .before .before .before .loop-test .taken) (omega arith) _ (part-is ns p (c .before .before .before .before .before .before .before .before .before .before .before .before .number .result) n) _ (sym (c .before .before .before .before .before .before .before .before .accept .ensures .0) ∙ c .before .before .before .before .before .before .accepted .given .1))
+          (ap (λ (x : ℕ). p + 1 + x) (sym n)) (sym (c .renewed .ensures)) (sym (c .before .before .before .before .before .before .before .before .accept .ensures .1)) (sym (c .before .before .before .note-rule .ensures)) (sym (c .before .note-state .ensures)),
     )
 
 enum-told-2 : tie.Need-enum-told-2 Inv-loop μ-loop
@@ -133,6 +136,7 @@ read-lines-spec =
     returns-3
     note-rule-requires
     note-state-requires
+    renewed-requires
     add-line
     loop-less
     loop-again

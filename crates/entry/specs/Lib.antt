@@ -1,0 +1,3 @@
+-- What the entries for programs in C tell.
+pub mod Packed
+pub mod Small

@@ -1,0 +1,2 @@
+-- What the contracts of the run programs' library cite.
+pub mod Fields
