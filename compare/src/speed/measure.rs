@@ -9,9 +9,12 @@ pub struct Times {
     pub fast: f64,
 }
 
-/// How long a case is repeated, and how often at least.
-const PATIENCE: Duration = Duration::from_millis(600);
-const LEAST_RUNS: usize = 40;
+/// How long a case is repeated, and how many turns each side has at least.
+const PATIENCE: Duration = Duration::from_secs(2);
+const LEAST_TURNS: usize = 10;
+/// How often a side is called in one turn. After its first call its own table and room are in the caches, not the other side's: two rooms for
+/// 4,096 tokens have 3 MB.
+const CALLS: usize = 8;
 /// How often a case is run with cold caches.
 const COLD_RUNS: usize = 41;
 /// Bytes that are written between two calls with cold caches.
@@ -24,15 +27,20 @@ fn time(work: &mut impl FnMut() -> u64) -> f64 {
     began.elapsed().as_nanos() as f64
 }
 
-/// The least times of many calls in turn.
+/// The least time of the calls of a turn.
+fn turn(work: &mut impl FnMut() -> u64) -> f64 {
+    (0..CALLS).map(|_| time(work)).fold(f64::MAX, f64::min)
+}
+
+/// The least times of many turns.
 pub fn repeated(mut proved: impl FnMut() -> u64, mut fast: impl FnMut() -> u64) -> Times {
     let mut least = Times { proved: f64::MAX, fast: f64::MAX };
     let began = Instant::now();
-    let mut runs = 0;
-    while runs < LEAST_RUNS || began.elapsed() < PATIENCE {
-        least.proved = least.proved.min(time(&mut proved));
-        least.fast = least.fast.min(time(&mut fast));
-        runs += 1;
+    let mut turns = 0;
+    while turns < LEAST_TURNS || began.elapsed() < PATIENCE {
+        least.proved = least.proved.min(turn(&mut proved));
+        least.fast = least.fast.min(turn(&mut fast));
+        turns += 1;
     }
     least
 }

@@ -120,7 +120,7 @@ module _ (t least : ℕ) (s : List ℕ) (i : ℕ) where
           (ap (λ (b : Bool). leb least (suc t) && b) (ahead-more t least s i h ∙ rw (lt-leb (getD s i 0) t (omega arith)) refl) ∙ and-false (leb least (suc t)))
 
   -- none is left
-  none-left : i ≡ length s → aheadFrom t least (drop i s) ≡ leb least (suc t)
+  pub none-left : i ≡ length s → aheadFrom t least (drop i s) ≡ leb least (suc t)
   unfolding all risesAt
   none-left e = rw (e, drop-length s) (and-true (leb least (suc t)))
 

@@ -122,7 +122,7 @@ pub(crate) fn fits_rule(terms: usize, nonterms: usize, numbers: &[u16]) -> bool
 }
 
 // state=K G
-pub(crate) fn fits_state(numbers: &[u16]) -> bool
+pub fn fits_state(numbers: &[u16]) -> bool
     ensures { λ r. ⌜ r ≡ fitsState (now (numbers .entry)) ⌝ }
 {
     if numbers.len() != 2 {

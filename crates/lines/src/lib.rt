@@ -6,6 +6,7 @@ mod line; // line.rt: one line's numbers taken in
 
 pub use fits::fits_go;
 pub use fits::fits_item_of;
+pub use fits::fits_state;
 pub use line::Accepted;
 pub use line::accept;
 pub use line::line_fits;

@@ -13,9 +13,9 @@ use Rattle.theory.specs.Table.{Item, Go, Table, stateAt, rest, has, isEmpty, re
 use Rattle.lines.specs.Limits.{maxTerms, maxNonterms, maxStates}
 use Rattle.table.specs.declared.Sizes.{Sizes}
 use Rattle.table.specs.Items.{goHere, GoHere, StatesHeld}
-use Rattle.table.specs.LookUps.{goSize, coded}
+use Rattle.table.specs.LookUps.{coded}
 use Rattle.table.specs.LookUps.Columns.{first, noted, Column}
-use Rattle.table.proofs.Columns.{firsts, column-as, column-none, column-note, in-size}
+use Rattle.table.proofs.Columns.{firsts, column-as, column-none, column-note, in-rows, in-size}
 
 -- the entry of one of two: the first if it is meant
 coded-first : (b : Bool) (r : ℕ) (o : Option ℕ) → coded (cond b (some r) o) ≡ first (coded (cond b (some r) none)) (coded o)
@@ -111,8 +111,12 @@ module _ {ns places : List ℕ} {z : Sizes} (H : StatesHeld ns places z) {s at :
   on-row e = let q = ap (λ (g : Go). g .on) (h .same) in let w = h .within .on-in .0 in let t = H .terms-are in let n = H .nonterms-are in omega arith
 
   -- its entry has a place
-  pub on-place : {y : ℕ} → y ≡ goHere ns at .on → y * z .states + s < goSize
-  on-place {y} e =
+  pub on-place : {y : ℕ} → y ≡ goHere ns at .on → y * z .states + s < suc (z .terms + z .nonterms) * z .states
+  on-place e = in-rows {h = suc (z .terms + z .nonterms)} {m = z .states} (on-row e) k
+
+  -- whose number is small
+  pub place-small : {y : ℕ} → y ≡ goHere ns at .on → y * z .states + s < (maxTerms + maxNonterms + 1) * maxStates
+  place-small e =
       let t = H .terms-are in let n = H .nonterms-are in let c = H .states-are in
       let a = H .in-range .term-count .1 in let b = H .in-range .nonterm-count .1 in let d = H .in-range .state-count .1 in
       in-size {h = suc (z .terms + z .nonterms)} {m = z .states} (maxTerms + maxNonterms + 1) maxStates (on-row e) k (omega arith) (omega arith)
@@ -122,7 +126,7 @@ module _ {ns places : List ℕ} {z : Sizes} (H : StatesHeld ns places z) {s at :
   to-small e = let q = ap (λ (g : Go). g .to) (h .same) in let w = h .within .to-in in let d = H .in-range .state-count .1 in omega arith
 
   -- it is written
-  pub note-go : {y v : ℕ} {before after : List ℕ} → y ≡ goHere ns at .on → v ≡ goHere ns at .to → length before ≡ goSize →
+  pub note-go : {y v : ℕ} {before after : List ℕ} → y ≡ goHere ns at .on → v ≡ goHere ns at .to → suc (z .terms + z .nonterms) * z .states ≤ length before →
       after ≡ noted before (y * z .states + s) (suc v) → Column (suc (z .terms + z .nonterms)) (z .states) s (λ y. byGo y l) before after
   note-go e f n w =
       let p = on-place e in

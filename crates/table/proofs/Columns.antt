@@ -76,7 +76,7 @@ same-row m y s z h e = go (decLt y z) (decLt z y)
     go (no k) (no l) = omega arith
 
 -- a place is within its rows
-in-rows : {h m y s : ℕ} → y < h → s < m → y * m + s < h * m
+pub in-rows : {h m y s : ℕ} → y < h → s < m → y * m + s < h * m
 in-rows {h} {m} {y} {s} l k = omega (arith, mul-le-mul-right m l)
 
 -- and within more and longer rows
@@ -168,11 +168,11 @@ module _ {h m size : ℕ} {v : ℕ → ℕ → ℕ} where
       rest i n = e .other i (λ y k. n y s k (omega arith)) ∙ c .todo i (λ y u k g. n y u k (omega arith))
 
   -- after the last column
-  pub columns-all : {s h′ m′ : ℕ} {entries : List ℕ} → s ≡ m → h ≡ h′ → m ≡ m′ → Columns h m size v s entries → Grid h′ m′ size v entries
-  columns-all {s} {m′ = m′} {entries = entries} e p q c = subst (λ h. Grid h m′ size v entries) p (subst (λ m. Grid h m size v entries) q record {
+  pub columns-all : {s h′ m′ size′ : ℕ} {entries : List ℕ} → s ≡ m → h ≡ h′ → m ≡ m′ → size ≡ size′ → Columns h m size v s entries → Grid h′ m′ size′ v entries
+  columns-all {s} {m′ = m′} {size′ = size′} {entries = entries} e p q w c = subst (λ h. Grid h m′ size′ v entries) p (subst (λ m. Grid h m size′ v entries) q record {
     each = λ y u k g. c .done y u k (omega arith);
     rest = λ i l. c .todo i (λ y u k g q. omega (arith, in-rows {h = h} {m = m} {y = y} {s = u} k (omega arith)));
-    long = c .long;
+    long = c .long ∙ w;
   })
 
 -- ---- a row

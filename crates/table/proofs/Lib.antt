@@ -5,6 +5,12 @@ pub mod FirstSets
 pub mod Reading
 pub mod Drafted
 pub mod Walked
+pub mod StateShapes
+pub mod LineLaws
+pub mod LinesGo
+pub mod ItemSets
+pub mod Heading
+pub mod StatesRead
 pub mod Order
 pub mod SetOf
 pub mod SetsNoted
@@ -27,5 +33,6 @@ pub mod Answered
 pub mod Theorems
 pub mod Columns
 pub mod Actions
+pub mod Room
 pub mod LookedUp
 pub mod SameLookUps

@@ -44,7 +44,7 @@ abbrev Same : (acts go lens lefts acts′ go′ lens′ lefts′ : List ℕ) →
 Same acts go lens lefts acts′ go′ lens′ lefts′ = (acts ≡ acts′) × (go ≡ go′) × (lens ≡ lens′) × (lefts ≡ lefts′)
 
 -- a table has one list of look-ups of each kind
-look-ups-one : {t : Table} {acts go lens lefts acts′ go′ lens′ lefts′ : List ℕ} → LookUps t acts go lens lefts → LookUps t acts′ go′ lens′ lefts′ →
+look-ups-one : {t : Table} {a b : ℕ} {acts go lens lefts acts′ go′ lens′ lefts′ : List ℕ} → LookUps t a b acts go lens lefts → LookUps t a b acts′ go′ lens′ lefts′ →
     Same acts go lens lefts acts′ go′ lens′ lefts′
 look-ups-one p q = (grid-one (p .act) (q .act), grid-one (p .goes) (q .goes), row-one (p .right) (q .right), row-one (p .left) (q .left))
 

@@ -1,5 +1,4 @@
--- What is known while the lines of a table are walked over: the shape stands for a draft whose parts stand at the noted places, and reading
--- on from there is reading the whole.
+-- Laws of what is known while the lines of a table are read: at the start, after a line that fits, and where the reading ends.
 use Prim.Native.Nat.{ℕ, suc, _+_, _-_, _≤_, _<_}
 use native.Mathlib.Omega.{arith}
 use mathlib.Core.Path.{_≡_, refl, sym, ap, _∙_, subst}
@@ -19,7 +18,7 @@ use Rattle.lines.specs.Lines.Steps.{at-end, at-missing, at-short, at-unfit, at-
 use Rattle.lines.specs.Ranges.{InRange, finished}
 use Rattle.lines.specs.Ranges.Fitting.{read-fits}
 use Rattle.lines.specs.Shape.{startShape, accepted, lengthsAfter}
-use Rattle.lines.specs.Shape.Shaped.{dueOf, Shaped, start-shaped, step-next, step-unfit, due-same}
+use Rattle.lines.specs.Shape.Shaped.{dueOf, start-shaped, step-next, step-unfit, due-same}
 use Rattle.lines.specs.declared.shape.Due.{Due}
 use Rattle.lines.specs.declared.shape.Due.the-variants.{Terms, Nonterms, Rules, Rule, States, State, Item, Go, End}
 use Rattle.lines.specs.declared.shape.Shape.{Shape}
@@ -27,19 +26,9 @@ use Rattle.lines.specs.declared.line.Accepted.the-variants.{Next, Unfit}
 use Rattle.lines.proofs.shape.Due.{the-type}
 use Rattle.table.specs.Places.{LineAt, found, tableIn, RulesAt, StatesTo, StatesAt}
 use Rattle.table.specs.Lined.{rulesWith, statesWith, Notable, Fine}
+use Rattle.table.specs.Walk.{Stands, Drafted, Walked}
 use Rattle.table.proofs.Reading.{line-at}
-use Rattle.table.proofs.Drafted.{Stands, Drafted, start-drafted, next-drafted}
-
--- all numbers before p are lines that fit, and line lines
-pub record Walked (ns : List ℕ) (p line : ℕ) (s : Shape) (lengths ra sa : List ℕ) : Type 0 where
-  pub draft : Draft
-  pub shaped : Shaped s lengths draft
-  pub inside : p ≤ length ns
-  pub counted : line ≤ p
-  pub on : linesAt line draft (drop p ns) ≡ linesAt 0 start ns
-  pub rules-long : length ra ≡ maxRules
-  pub states-long : length sa ≡ maxStates
-  pub drafted : Drafted ns p ra sa draft
+use Rattle.table.proofs.Drafted.{start-drafted, next-drafted}
 
 -- numbers that are not too many are read from the start
 read-from : (ns : List ℕ) → length ns ≤ maxNumbers → readNumbers ns ≡ linesAt 0 start ns
@@ -116,12 +105,7 @@ other-rule s ra p h = go (s .due) refl h
     go Go e k = rw (e, rulesWith) refl
     go End e k = rw (e, rulesWith) refl
 
--- a state line's place is noted among the states'
-pub state-noted : (s : Shape) (sa : List ℕ) (p : ℕ) → s .due ≡ State → statesWith s sa p ≡ set sa (s .states - s .«states_left») p
-unfolding statesWith
-state-noted s sa p e = rw (e, statesWith) refl
-
--- any other line's is not
+-- the places of the states are noted at a state line alone
 pub other-state : (s : Shape) (sa : List ℕ) (p : ℕ) → OneOf (0 ∷ 1 ∷ 2 ∷ 3 ∷ 4 ∷ 6 ∷ 7 ∷ 8 ∷ []) (tagOf the-type (s .due)) → statesWith s sa p ≡ sa
 unfolding statesWith
 other-state s sa p h = go (s .due) refl h
@@ -282,16 +266,3 @@ part-is ns p n e =
     let a : p + 1 + n - (p + 1) ≡ getD ns p 0 = omega arith in
     let b : p + 1 ≡ suc p = omega arith in
     λ i. take (a i) (drop (b i) ns)
-
--- where another line than none is due
-pub not-end : (w : Due) → OneOf (0 ∷ 1 ∷ 2 ∷ 3 ∷ 4 ∷ 5 ∷ 6 ∷ 7 ∷ []) (tagOf the-type w) → isEnd (dueOf w) ≡ false
-unfolding isEnd
-not-end Terms k = refl
-not-end Nonterms k = refl
-not-end Rules k = refl
-not-end Rule k = refl
-not-end States k = refl
-not-end State k = refl
-not-end Item k = refl
-not-end Go k = refl
-not-end End k = absurd (miss (0 ∷ 1 ∷ 2 ∷ 3 ∷ 4 ∷ 5 ∷ 6 ∷ 7 ∷ []) 8 tt k)

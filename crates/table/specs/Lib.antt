@@ -10,6 +10,8 @@ pub mod Notions
 pub mod Firsts
 pub mod Faults
 pub mod Lined
+pub mod Walk
+pub mod States
 pub mod Items
 pub mod Aheads
 pub mod Spots

@@ -46,6 +46,10 @@ pub record Notable (s : Shape) (p : ℕ) : Type 0 where
   pub rule : s .due ≡ Rule → s .rules < maxRules
   pub state : s .due ≡ State → (s .«states_left» ≤ s .states) × (s .states - s .«states_left» < maxStates)
 
+-- the sizes that a shape says
+abbrev pub sizesOf : Shape → Sizes
+sizesOf s = record { terms = s .terms; nonterms = s .nonterms; rules = s .rules; states = s .states }
+
 -- all lines fit, and the table's sizes and places are these
 pub record Fine (ns rulePlaces statePlaces : List ℕ) (z : Sizes) : Type 0 where
   pub fine : readNumbers ns ≡ Lined.fine (finished (tableIn ns))

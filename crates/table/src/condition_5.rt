@@ -28,6 +28,7 @@ use crate::items::item_dot;
 use crate::items::item_rule;
 use crate::items::next_item;
 use crate::items::symbol_at;
+use crate::places::wide_byte;
 use crate::sets::within;
 use crate::spots::CORES;
 use crate::spots::core;
@@ -192,19 +193,12 @@ fn all_led(
     true
 }
 
-// The same mark, wider.
-fn wide_mark(x: u8) -> usize
-    ensures { λ m. ⌜ m ≡ x ⌝ }
-{
-    x as usize
-}
-
 // The mark at a rule and a dot.
 fn mark_at(marks: &[u8; CORES], rule: usize, dot: usize) -> usize
     requires { ⌜ CoreIn rule dot ⌝ }
     ensures { λ m. ⌜ m ≡ getD (now (marks .entry)) (coreOf rule dot) 0 ⌝ }
 {
-    wide_mark(marks[core(rule, dot)])
+    wide_byte(marks[core(rule, dot)])
 }
 
 // Whether the item at a place moves on: it is complete, or was met with the dot moved on.

@@ -2,13 +2,13 @@
 ghost use mathlib.Core.Path.{_≡_};
 ghost use mathlib.Core.Bool.{cond};
 ghost use mathlib.Core.List.{[], _∷_};
-ghost use Prim.Native.Nat.{suc, _+_, _≤_, _<_};
+ghost use Prim.Native.Nat.{suc, _+_, _*_, _≤_, _<_};
 ghost use lib.ListN.{length, replicate};
 ghost use Rattle.theory.specs.Table.{ruleAt, count, has, reduceIn, reduceOn, goto};
-ghost use Rattle.lines.specs.Limits.{maxTerms, maxRules, maxStates};
+ghost use Rattle.lines.specs.Limits.{maxTerms, maxNonterms, maxRules, maxStates};
 ghost use Rattle.table.specs.Places.{Held, tableIn, grammarIn};
 ghost use Rattle.table.specs.Items.{itemIn, ItemHeld, StatesHeld};
-ghost use Rattle.table.specs.LookUps.{actSize, goSize, coded, Row, Grid, Looked};
+ghost use Rattle.table.specs.LookUps.{roomFor, coded, Row, Grid, Looked};
 ghost use Rattle.table.specs.LookUps.Columns.{noted, Column};
 use crate::Read;
 use crate::Sizes;
@@ -27,10 +27,10 @@ use crate::places::right_count;
 use crate::walk::read_lines;
 use lines::Shape;
 
-// How many entries there are for tokens and states.
+// Enough entries for tokens and states, whatever the table.
 pub const ACTS: usize = Shape::MAX_TERMS * Shape::MAX_STATES;
 
-// How many entries there are for symbols and states, the end mark's among them.
+// Enough entries for symbols and states, the end mark's among them, whatever the table.
 pub const GOES: usize = (Shape::MAX_TERMS + Shape::MAX_NONTERMS + 1) * Shape::MAX_STATES;
 
 // Makes all entries 0.
@@ -55,8 +55,8 @@ fn note(entries: &mut [u16], at: usize, v: usize)
 }
 
 // Writes the rule of the item at a place for each kind of its set, in the column of a state.
-fn note_set(table: &[u16], terms: usize, m: usize, s: usize, at: usize, acts: &mut [u16; ACTS])
-    requires { ⌜ ItemHeld (now table) at × (length (grammarIn (now table) .rules) ≤ maxRules) × (terms ≤ maxTerms) × (s < m) × (m ≤ maxStates) × (length (now acts) ≡ actSize) ⌝ }
+fn note_set(table: &[u16], terms: usize, m: usize, s: usize, at: usize, acts: &mut [u16])
+    requires { ⌜ ItemHeld (now table) at × (length (grammarIn (now table) .rules) ≤ maxRules) × (terms ≤ maxTerms) × (s < m) × (m ≤ maxStates) × (terms * m ≤ length (now acts)) ⌝ }
     ensures { λ _. ⌜ Column terms m s (λ a. cond (has (itemIn (now (table .entry)) at .ahead) a) (suc (itemIn (now (table .entry)) at .rule)) 0) (now (acts .entry)) (now (acts .exit)) ⌝ }
 {
     let rule = item_rule(table, at);
@@ -78,9 +78,9 @@ fn note_item(
     sizes: Sizes,
     s: usize,
     at: usize,
-    acts: &mut [u16; ACTS],
+    acts: &mut [u16],
 )
-    requires { ⌜ Held (now table) (now «rule_at») sizes × ItemHeld (now table) at × (s < sizes .states) × (length (now acts) ≡ actSize) ⌝ }
+    requires { ⌜ Held (now table) (now «rule_at») sizes × ItemHeld (now table) at × (s < sizes .states) × (sizes .terms * sizes .states ≤ length (now acts)) ⌝ }
     ensures { λ _. ⌜ Column (sizes .terms) (sizes .states) s (λ a. coded (reduceIn (grammarIn (now (table .entry))) (itemIn (now (table .entry)) at ∷ []) a)) (now (acts .entry)) (now (acts .exit)) ⌝ }
 {
     if after_dot(table, rule_at, sizes, at) == sizes.terms {
@@ -95,9 +95,9 @@ fn note_acts(
     state_at: &[u16; Shape::MAX_STATES],
     sizes: Sizes,
     s: usize,
-    acts: &mut [u16; ACTS],
+    acts: &mut [u16],
 )
-    requires { ⌜ Held (now table) (now «rule_at») sizes × StatesHeld (now table) (now «state_at») sizes × (s < sizes .states) × (length (now acts) ≡ actSize) ⌝ }
+    requires { ⌜ Held (now table) (now «rule_at») sizes × StatesHeld (now table) (now «state_at») sizes × (s < sizes .states) × (sizes .terms * sizes .states ≤ length (now acts)) ⌝ }
     ensures { λ _. ⌜ Column (sizes .terms) (sizes .states) s (λ a. coded (reduceOn (tableIn (now (table .entry))) s a)) (now (acts .entry)) (now (acts .exit)) ⌝ }
 {
     let n = item_count(table, state_at, sizes, s);
@@ -116,9 +116,9 @@ fn note_gos(
     state_at: &[u16; Shape::MAX_STATES],
     sizes: Sizes,
     s: usize,
-    go: &mut [u16; GOES],
+    go: &mut [u16],
 )
-    requires { ⌜ StatesHeld (now table) (now «state_at») sizes × (s < sizes .states) × (length (now go) ≡ goSize) ⌝ }
+    requires { ⌜ StatesHeld (now table) (now «state_at») sizes × (s < sizes .states) × (suc (sizes .terms + sizes .nonterms) * sizes .states ≤ length (now go)) ⌝ }
     ensures { λ _. ⌜ Column (suc (sizes .terms + sizes .nonterms)) (sizes .states) s (λ y. coded (goto (tableIn (now (table .entry))) s y)) (now (go .entry)) (now (go .exit)) ⌝ }
 {
     let n = go_count(table, state_at, sizes, s);
@@ -139,11 +139,11 @@ fn fill_states(
     rule_at: &[u16; Shape::MAX_RULES],
     state_at: &[u16; Shape::MAX_STATES],
     sizes: Sizes,
-    acts: &mut [u16; ACTS],
-    go: &mut [u16; GOES],
+    acts: &mut [u16],
+    go: &mut [u16],
 )
-    requires { ⌜ Held (now table) (now «rule_at») sizes × StatesHeld (now table) (now «state_at») sizes ⌝ }
-    ensures { λ _. ⌜ Grid (grammarIn (now (table .entry)) .terms) (count (tableIn (now (table .entry)))) actSize (λ a s. coded (reduceOn (tableIn (now (table .entry))) s a)) (now (acts .exit)) × Grid (suc (grammarIn (now (table .entry)) .terms + grammarIn (now (table .entry)) .nonterms)) (count (tableIn (now (table .entry)))) goSize (λ y s. coded (goto (tableIn (now (table .entry))) s y)) (now (go .exit)) ⌝ }
+    requires { ⌜ Held (now table) (now «rule_at») sizes × StatesHeld (now table) (now «state_at») sizes × (sizes .terms * sizes .states ≤ length (now acts)) × (suc (sizes .terms + sizes .nonterms) * sizes .states ≤ length (now go)) ⌝ }
+    ensures { λ _. ⌜ Grid (grammarIn (now (table .entry)) .terms) (count (tableIn (now (table .entry)))) (length (now (acts .entry))) (λ a s. coded (reduceOn (tableIn (now (table .entry))) s a)) (now (acts .exit)) × Grid (suc (grammarIn (now (table .entry)) .terms + grammarIn (now (table .entry)) .nonterms)) (count (tableIn (now (table .entry)))) (length (now (go .entry))) (λ y s. coded (goto (tableIn (now (table .entry))) s y)) (now (go .exit)) ⌝ }
 {
     clear(acts);
     clear(go);
@@ -176,11 +176,20 @@ fn fill_rules(
     }
 }
 
-// Builds the look-ups of a table of numbers. Where its lines do not fit it tells so and changes nothing.
+// Whether so many entries are enough for a table of these sizes.
+fn has_room(sizes: Sizes, acts: usize, go: usize) -> bool
+    requires { ⌜ (sizes .terms ≤ maxTerms) × (sizes .nonterms ≤ maxNonterms) × (sizes .states ≤ maxStates) ⌝ }
+    ensures { λ r. ⌜ r ≡ roomFor (sizes .terms) (sizes .nonterms) (sizes .states) acts go ⌝ }
+{
+    let symbols = sizes.terms + sizes.nonterms + 1;
+    sizes.terms * sizes.states <= acts && symbols * sizes.states <= go
+}
+
+// Builds the look-ups of a table of numbers. Where its lines do not fit or there is too little room it tells so and changes nothing.
 pub fn look_ups(
     table: &[u16],
-    acts: &mut [u16; ACTS],
-    go: &mut [u16; GOES],
+    acts: &mut [u16],
+    go: &mut [u16],
     lens: &mut [u16; Shape::MAX_RULES],
     lefts: &mut [u16; Shape::MAX_RULES],
 ) -> bool
@@ -188,11 +197,15 @@ pub fn look_ups(
 {
     let mut rule_at = [0u16; Shape::MAX_RULES];
     let mut state_at = [0u16; Shape::MAX_STATES];
-    let read = read_lines(table, &mut rule_at, &mut state_at);
+    let mut none = [0u64; 1];
+    let read = read_lines(table, &mut rule_at, &mut state_at, &mut none);
     let Read::Fits(sizes) = read else {
         return false;
     };
-    fill_states(table, &rule_at, &state_at, sizes, acts, go);
-    fill_rules(table, &rule_at, sizes, lens, lefts);
-    true
+    if has_room(sizes, acts.len(), go.len()) {
+        fill_states(table, &rule_at, &state_at, sizes, acts, go);
+        fill_rules(table, &rule_at, sizes, lens, lefts);
+        return true;
+    }
+    false
 }

@@ -1,20 +1,17 @@
 // The items and go lines of a table's states.
 ghost use mathlib.Core.Path.{_≡_};
-ghost use mathlib.Core.List.{List·Memᴰ as Mem};
-ghost use Prim.Native.Nat.{suc, _+_, _<_, _≤_};
+ghost use Prim.Native.Nat.{_+_, _<_, _≤_};
 ghost use lib.ListN.{length, getD};
 ghost use Rattle.theory.specs.Table.{ruleAt, stateAt};
 ghost use Rattle.lines.specs.Limits.{maxStates};
 ghost use Rattle.table.specs.Places.{Held, tableIn, grammarIn, afterItem, afterState, gosPlace};
 ghost use Rattle.table.specs.Items.{itemIn, goHere, ItemHeld, StatesHeld};
 ghost use Rattle.table.specs.Items.Dot.{afterDot};
-ghost use Rattle.table.specs.Sets.{SetOf};
 use crate::Sizes;
 use crate::places::number;
 use crate::places::right_count;
 use crate::places::right_symbol;
 use crate::places::wide;
-use crate::sets::single;
 use lines::Shape;
 
 // The place of a state's line.
@@ -113,22 +110,6 @@ pub(crate) fn next_item(table: &[u16], at: usize) -> usize
     ensures { λ p. ⌜ p ≡ afterItem at (itemIn (now (table .entry)) at) ⌝ }
 {
     at + 1 + number(table, at)
-}
-
-// The look-ahead set of the item at a place.
-pub(crate) fn ahead_set(table: &[u16], at: usize) -> u64
-    requires { ⌜ ItemHeld (now table) at ⌝ }
-    ensures { λ r. ⌜ SetOf (λ a. Mem a (itemIn (now (table .entry)) at .ahead)) (suc (grammarIn (now (table .entry)) .terms)) r ⌝ }
-{
-    let n = number(table, at) - 2;
-    let mut set: u64 = 0;
-    let mut j = 0;
-    while j < n {
-        let a = number(table, at + 3 + j);
-        set |= single(a);
-        j += 1;
-    }
-    set
 }
 
 // The symbol at a place of the right side of a rule, the accept rule too; the end mark past its end.

@@ -15,6 +15,13 @@ pub(crate) fn wide(x: u16) -> usize
     x as usize
 }
 
+// The same byte, wider.
+pub(crate) fn wide_byte(x: u8) -> usize
+    ensures { λ n. ⌜ n ≡ x ⌝ }
+{
+    x as usize
+}
+
 // The number at a place.
 pub(crate) fn number(table: &[u16], at: usize) -> usize
     requires { ⌜ at < length (now table) ⌝ }

@@ -2,15 +2,12 @@
 ghost use Rattle.theory.specs.Grammar.{Reduced, NoRing};
 ghost use Rattle.table.specs.Check.{Answers};
 ghost use Rattle.table.specs.Checks.{KeptBefore};
-ghost use Prim.Native.Nat.{_*_, _≤_};
-ghost use lib.ListN.{length};
 ghost use Rattle.table.specs.Aheads.{AllNoted};
 ghost use Rattle.table.specs.Items.{StatesHeld};
 ghost use Rattle.table.specs.Places.{Held, grammarIn, tableIn};
 use crate::Check;
 use crate::Found;
 use crate::Sizes;
-use crate::aheads::note_sets;
 use crate::condition_1::breaks_1;
 use crate::condition_2::breaks_2;
 use crate::condition_3::breaks_3;
@@ -49,18 +46,17 @@ fn from_5(
     Check::Passes(sizes.states)
 }
 
-// Condition 4 and those after it, where all states keep 1 to 3, with room for the look-ahead sets.
-fn from_sets(
+// Condition 4 and those after it, where all states keep 1 to 3.
+fn from_4(
     table: &[u16],
     rule_at: &[u16; Shape::MAX_RULES],
     state_at: &[u16; Shape::MAX_STATES],
     sizes: Sizes,
-    sets: &mut [u64],
+    sets: &[u64],
 ) -> Check
-    requires { ⌜ Held (now table) (now «rule_at») sizes × StatesHeld (now table) (now «state_at») sizes × Reduced (grammarIn (now table)) × NoRing (grammarIn (now table)) × KeptBefore (tableIn (now table)) 4 × (length (now table) ≤ 4 * length (now sets)) ⌝ }
+    requires { ⌜ Held (now table) (now «rule_at») sizes × StatesHeld (now table) (now «state_at») sizes × Reduced (grammarIn (now table)) × NoRing (grammarIn (now table)) × KeptBefore (tableIn (now table)) 4 × AllNoted (now table) (now «state_at») sizes (now sets) ⌝ }
     ensures { λ r. ⌜ Answers (tableIn (now (table .entry))) r ⌝ }
 {
-    note_sets(table, state_at, sizes, sets);
     let rows = firsts(table, rule_at, sizes);
     let fourth = breaks_4(table, rule_at, state_at, sizes, sets, &rows);
     if fourth < sizes.states {
@@ -69,41 +65,15 @@ fn from_sets(
     from_5(table, rule_at, state_at, sizes, sets)
 }
 
-// The same; the room is made here, small for a small table.
-fn from_4(
-    table: &[u16],
-    rule_at: &[u16; Shape::MAX_RULES],
-    state_at: &[u16; Shape::MAX_STATES],
-    sizes: Sizes,
-) -> Check
-    requires { ⌜ Held (now table) (now «rule_at») sizes × StatesHeld (now table) (now «state_at») sizes × Reduced (grammarIn (now table)) × NoRing (grammarIn (now table)) × KeptBefore (tableIn (now table)) 4 ⌝ }
-    ensures { λ r. ⌜ Answers (tableIn (now (table .entry))) r ⌝ }
-{
-    let n = table.len();
-    if n <= 512 {
-        let mut few = [0u64; 128];
-        return from_sets(table, rule_at, state_at, sizes, &mut few);
-    }
-    if n <= 2048 {
-        let mut some = [0u64; 512];
-        return from_sets(table, rule_at, state_at, sizes, &mut some);
-    }
-    if n <= 24000 {
-        let mut many = [0u64; 6000];
-        return from_sets(table, rule_at, state_at, sizes, &mut many);
-    }
-    let mut most = [0u64; Shape::MAX_NUMBERS / 4];
-    from_sets(table, rule_at, state_at, sizes, &mut most)
-}
-
 // All seven conditions, where the grammar is in order.
 fn from_1(
     table: &[u16],
     rule_at: &[u16; Shape::MAX_RULES],
     state_at: &[u16; Shape::MAX_STATES],
     sizes: Sizes,
+    sets: &[u64],
 ) -> Check
-    requires { ⌜ Held (now table) (now «rule_at») sizes × StatesHeld (now table) (now «state_at») sizes × Reduced (grammarIn (now table)) × NoRing (grammarIn (now table)) ⌝ }
+    requires { ⌜ Held (now table) (now «rule_at») sizes × StatesHeld (now table) (now «state_at») sizes × Reduced (grammarIn (now table)) × NoRing (grammarIn (now table)) × AllNoted (now table) (now «state_at») sizes (now sets) ⌝ }
     ensures { λ r. ⌜ Answers (tableIn (now (table .entry))) r ⌝ }
 {
     let first = breaks_1(table, state_at, sizes);
@@ -118,7 +88,7 @@ fn from_1(
     if third < sizes.states {
         return Check::Broken(3, third);
     }
-    from_4(table, rule_at, state_at, sizes)
+    from_4(table, rule_at, state_at, sizes, sets)
 }
 
 // The unit rings, where every nonterminal is productive and reachable; then the conditions.
@@ -127,14 +97,15 @@ fn from_ring(
     rule_at: &[u16; Shape::MAX_RULES],
     state_at: &[u16; Shape::MAX_STATES],
     sizes: Sizes,
+    sets: &[u64],
 ) -> Check
-    requires { ⌜ Held (now table) (now «rule_at») sizes × StatesHeld (now table) (now «state_at») sizes × Reduced (grammarIn (now table)) ⌝ }
+    requires { ⌜ Held (now table) (now «rule_at») sizes × StatesHeld (now table) (now «state_at») sizes × Reduced (grammarIn (now table)) × AllNoted (now table) (now «state_at») sizes (now sets) ⌝ }
     ensures { λ r. ⌜ Answers (tableIn (now (table .entry))) r ⌝ }
 {
     let ring = lowest_ring(table, rule_at, sizes);
     match ring {
         Found::At(v) => Check::Ring(v),
-        Found::Nothing => from_1(table, rule_at, state_at, sizes),
+        Found::Nothing => from_1(table, rule_at, state_at, sizes, sets),
     }
 }
 
@@ -144,13 +115,14 @@ pub(crate) fn from_reduced(
     rule_at: &[u16; Shape::MAX_RULES],
     state_at: &[u16; Shape::MAX_STATES],
     sizes: Sizes,
+    sets: &[u64],
 ) -> Check
-    requires { ⌜ Held (now table) (now «rule_at») sizes × StatesHeld (now table) (now «state_at») sizes ⌝ }
+    requires { ⌜ Held (now table) (now «rule_at») sizes × StatesHeld (now table) (now «state_at») sizes × AllNoted (now table) (now «state_at») sizes (now sets) ⌝ }
     ensures { λ r. ⌜ Answers (tableIn (now (table .entry))) r ⌝ }
 {
     let fault = lowest_fault(table, rule_at, sizes);
     match fault {
         Found::At(v) => Check::NotReduced(v),
-        Found::Nothing => from_ring(table, rule_at, state_at, sizes),
+        Found::Nothing => from_ring(table, rule_at, state_at, sizes, sets),
     }
 }

@@ -2,10 +2,12 @@
 ghost use mathlib.Core.Path.{_≡_};
 ghost use lib.ListN.{length};
 ghost use Rattle.lines.specs.Limits.{maxRules, maxStates};
-ghost use Rattle.table.specs.Lined.{rulesWith, statesWith, Notable, Reads};
+ghost use Rattle.table.specs.Aheads.{SetsRead};
+ghost use Rattle.table.specs.Lined.{rulesWith, Notable, Reads, sizesOf};
 use crate::Read;
 use crate::Sizes;
 use crate::places::number;
+use crate::states::read_states;
 use lines::Accepted;
 use lines::Due;
 use lines::Shape;
@@ -20,18 +22,6 @@ fn note_rule(s: Shape, at: usize, rule_at: &mut [u16; Shape::MAX_RULES])
     if let Due::Rule = due {
         let r = s.rules;
         rule_at[r] = at as u16;
-    }
-}
-
-// A state line's place is noted.
-fn note_state(s: Shape, at: usize, state_at: &mut [u16; Shape::MAX_STATES])
-    requires { ⌜ Notable s at ⌝ }
-    ensures { λ _. ⌜ now («state_at» .exit) ≡ statesWith s (now («state_at» .entry)) at ⌝ }
-{
-    let due = s.due;
-    if let Due::State = due {
-        let k = s.states - s.states_left;
-        state_at[k] = at as u16;
     }
 }
 
@@ -54,14 +44,28 @@ fn renewed(s: Shape) -> Shape
     }
 }
 
-// All lines of a table.
+// The sizes that a shape says.
+fn sizes_of(s: Shape) -> Sizes
+    ensures { λ z. ⌜ z ≡ sizesOf s ⌝ }
+{
+    Sizes {
+        terms: s.terms,
+        nonterms: s.nonterms,
+        rules: s.rules,
+        states: s.states,
+    }
+}
+
+// All lines of a table: those before the states one by one, then those of the states. The look-ahead sets for which there is room are noted.
 pub(crate) fn read_lines(
     table: &[u16],
     rule_at: &mut [u16; Shape::MAX_RULES],
     state_at: &mut [u16; Shape::MAX_STATES],
+    sets: &mut [u64],
 ) -> Read
     requires { ⌜ (length (now «rule_at») ≡ maxRules) × (length (now «state_at») ≡ maxStates) ⌝ }
     ensures { λ r. ⌜ Reads (now (table .entry)) (now («rule_at» .exit)) (now («state_at» .exit)) r ⌝ }
+    ensures { λ r. ⌜ SetsRead (now (table .entry)) (now («state_at» .exit)) (now (sets .exit)) r ⌝ }
 {
     if Shape::MAX_NUMBERS < table.len() {
         return Read::TooLong;
@@ -71,6 +75,10 @@ pub(crate) fn read_lines(
     let mut at = 0;
     let mut line = 0;
     while at < table.len() {
+        let due = s.due;
+        if let Due::State = due {
+            return read_states(table, sizes_of(s), &lengths, at, line, state_at, sets);
+        }
         let from = at + 1;
         let n = number(table, at);
         if table.len() - from < n {
@@ -82,19 +90,9 @@ pub(crate) fn read_lines(
             return Read::Unfit(line);
         };
         note_rule(s, at, rule_at);
-        note_state(s, at, state_at);
         s = renewed(next);
         at = to;
         line += 1;
     }
-    let due = s.due;
-    let Due::End = due else {
-        return Read::Unfit(line);
-    };
-    Read::Fits(Sizes {
-        terms: s.terms,
-        nonterms: s.nonterms,
-        rules: s.rules,
-        states: s.states,
-    })
+    Read::Unfit(line)
 }

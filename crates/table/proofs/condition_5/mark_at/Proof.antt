@@ -9,15 +9,15 @@ use Rattle.table.proofs.condition_5.mark_at.Tie as tie
 core-requires : tie.Need-core-requires
 core-requires c κs = search needs
 
-element-copy-out-wide-mark : tie.Need-element-copy-out-wide-mark
-element-copy-out-wide-mark c = search needs
+element-copy-out-wide-byte : tie.Need-element-copy-out-wide-byte
+element-copy-out-wide-byte c = search needs
 
-wide-mark-requires : tie.Need-wide-mark-requires
-wide-mark-requires c κs = search needs
+wide-byte-requires : tie.Need-wide-byte-requires
+wide-byte-requires c κs = search needs
 
 returns : tie.Need-returns
-returns c = c .wide-mark .ensures ∙ ap (λ (x : ℕ). getD (c .before .before .before .args .marks .now) x 0) (c .before .before .core .ensures)
+returns c = c .wide-byte .ensures ∙ ap (λ (x : ℕ). getD (c .before .before .before .args .marks .now) x 0) (c .before .before .core .ensures)
 
 pub mark-at-spec : {M : Type 1} → statement M
 mark-at-spec =
-    tie.close (tie.spec core-requires element-copy-out-wide-mark wide-mark-requires returns)
+    tie.close (tie.spec core-requires element-copy-out-wide-byte wide-byte-requires returns)

@@ -4,11 +4,11 @@ use native.Mathlib.Omega.{arith}
 use mathlib.Core.Logic.{⊎-elim}
 use mathlib.Core.Path.{_≡_, _∙_, sym, subst}
 use lib.ListN.{length, getD, take}
+use borrow.Author.Needs.{needs}
 use Rattle.lines.specs.Limits.{maxTerms, maxStates}
 use Rattle.table.specs.LookUps.Columns.{Column}
-use Rattle.table.specs.LookUps.{actSize}
 use Rattle.table.specs.Items.{itemIn}
-use Rattle.table.proofs.Columns.{firsts, in-size, walk-none, walk-more, walk-all}
+use Rattle.table.proofs.Columns.{firsts, in-rows, in-size, walk-none, walk-more, walk-all}
 use Rattle.table.proofs.Actions.{byToken, tokens-first, note-one, skip-one}
 use Rattle.table.proofs.entries.note_set.Statement.{statement}
 use Rattle.table.proofs.entries.note_set.Tie as tie
@@ -20,43 +20,43 @@ abbrev μ-loop : tie.MeasureT-loop
 μ-loop table terms m s at acts₀ rule n j₀ acts j = n - j
 
 item-rule-requires : tie.Need-item-rule-requires Inv-loop μ-loop
-item-rule-requires c κs = c .before .pre .0
+item-rule-requires c κs = c .before .before .pre .0
 
 number-requires : tie.Need-number-requires Inv-loop μ-loop
-number-requires c κs = let i = c .before .before .pre .0 .line .inside in omega arith
+number-requires c κs = let i = c .before .before .before .pre .0 .line .inside in omega arith
 
 sub-n : tie.Need-sub-n Inv-loop μ-loop
-sub-n c = let h = c .before .before .before .pre .0 .line .counted in let e = c .number .ensures in omega arith
+sub-n c = let h = c .before .before .before .before .pre .0 .line .counted in let e = c .number .ensures in omega arith
 
 loop-holds : tie.Need-loop-holds Inv-loop μ-loop
-loop-holds c = let S = c .before .before .before in
+loop-holds c = let S = c .before .before .before .before in
     let h = S .pre .0 .line .counted in
     let e = c .number .ensures in
     let i = itemIn (S .args .table .now) (S .args .at) in
     (omega arith, omega arith, walk-none _ _ _ (byToken (i .rule)) (i .ahead) 0 _)
 
 add-number : tie.Need-add-number Inv-loop μ-loop
-add-number c = let S = c .before .before .before .before .before in let i = S .pre .0 .line .inside in omega arith
+add-number c = let S = c .before .before .before .before .before .before in let i = S .pre .0 .line .inside in omega arith
 
 add-number-2 : tie.Need-add-number-2 Inv-loop μ-loop
-add-number-2 c = let S = c .before .before .before .before .before in let i = S .pre .0 .line .inside in let (n, j, col) = c .before .loop .inv in let t = c .loop-test .taken in omega arith
+add-number-2 c = let S = c .before .before .before .before .before .before in let i = S .pre .0 .line .inside in let (n, j, col) = c .before .loop .inv in let t = c .loop-test .taken in omega arith
 
 number-requires-2 : tie.Need-number-requires-2 Inv-loop μ-loop
-number-requires-2 c κs = let S = c .before .before .before .before .before in let i = S .pre .0 .line .inside in let (n, j, col) = c .before .loop .inv in let t = c .loop-test .taken in omega arith
+number-requires-2 c κs = let S = c .before .before .before .before .before .before in let i = S .pre .0 .line .inside in let (n, j, col) = c .before .loop .inv in let t = c .loop-test .taken in omega arith
 
 mul-note : tie.Need-mul-note Inv-loop μ-loop
-mul-note c = let S = c .before .before .before .before .before .before .before .before in
-    let p : c .before .before .number2 .result * S .args .m + S .args .s < actSize = in-size {h = S .args .terms} {m = S .args .m} maxTerms maxStates (c .before .if1 .taken) (S .pre .3) (S .pre .2) (S .pre .4) in
+mul-note c = let S = c .before .before .before .before .before .before .before .before .before in
+    let p : c .before .before .number2 .result * S .args .m + S .args .s < maxTerms * maxStates = in-size {h = S .args .terms} {m = S .args .m} maxTerms maxStates (c .before .if1 .taken) (S .pre .3) (S .pre .2) (S .pre .4) in
     omega arith
 
 add-note : tie.Need-add-note Inv-loop μ-loop
-add-note c = let S = c .before .before .before .before .before .before .before .before in
-    let p : c .before .before .number2 .result * S .args .m + S .args .s < actSize = in-size {h = S .args .terms} {m = S .args .m} maxTerms maxStates (c .before .if1 .taken) (S .pre .3) (S .pre .2) (S .pre .4) in
+add-note c = let S = c .before .before .before .before .before .before .before .before .before in
+    let p : c .before .before .number2 .result * S .args .m + S .args .s < maxTerms * maxStates = in-size {h = S .args .terms} {m = S .args .m} maxTerms maxStates (c .before .if1 .taken) (S .pre .3) (S .pre .2) (S .pre .4) in
     omega arith
 
 note-requires : tie.Need-note-requires Inv-loop μ-loop
-note-requires c κs = let S = c .before .before .before .before .before .before .before .before in
-    let p : c .before .before .number2 .result * S .args .m + S .args .s < actSize = in-size {h = S .args .terms} {m = S .args .m} maxTerms maxStates (c .before .if1 .taken) (S .pre .3) (S .pre .2) (S .pre .4) in
+note-requires c κs = let S = c .before .before .before .before .before .before .before .before .before in
+    let p : c .before .before .number2 .result * S .args .m + S .args .s < S .args .terms * S .args .m = in-rows (c .before .if1 .taken) (S .pre .3) in
     let n = c .before .before .before .before .loop .inv .2 .long in
     let g = S .pre .5 in
     let r = c .before .before .before .before .before .before .item-rule .ensures in
@@ -71,7 +71,7 @@ loop-less : tie.Need-loop-less Inv-loop μ-loop
 loop-less c = let t = c .before .before .loop-test .taken in omega arith
 
 loop-again : tie.Need-loop-again Inv-loop μ-loop
-loop-again c = let S = c .before .before .before .before .before .before .before in
+loop-again c = let S = c .before .before .before .before .before .before .before .before in
     let i = itemIn (S .args .table .now) (S .args .at) in
     let (n, p, col) = c .before .before .before .loop .inv in
     let t = c .before .before .loop-test .taken in
@@ -79,16 +79,20 @@ loop-again c = let S = c .before .before .before .before .before .before .before
       n,
       omega arith,
       ⊎-elim
-          (λ (branch, arg, note, same).
-          let q : c .before .number2 .result * S .args .m + S .args .s < actSize = in-size {h = S .args .terms} {m = S .args .m} maxTerms maxStates (branch .taken) (S .pre .3) (S .pre .2) (S .pre .4) in
-          let g = col .long ∙ S .pre .5 in
+          (λ (branch, arg, note, a, b, same).
+          let q : c .before .number2 .result * S .args .m + S .args .s < S .args .terms * S .args .m = in-rows (branch .taken) (S .pre .3) in
+          let l = col .long in
+          let g = S .pre .5 in
           walk-more _ _ _ (byToken (i .rule)) (i .ahead) 0 (omega arith) col (note-one e (c .before .before .before .before .before .item-rule .ensures) (S .pre .3) (branch .taken) (omega arith) (same ∙ note .ensures)))
           (λ (branch, same). walk-more _ _ _ (byToken (i .rule)) (i .ahead) 0 (omega arith) col (subst (λ l. Column (S .args .terms) (S .args .m) (S .args .s) (λ a. byToken (i .rule) a (getD (i .ahead) (c .before .before .before .loop .j) 0)) (c .before .before .before .loop .acts) l) (sym same) (skip-one (i .rule) e (branch .left))))
           (c .if1 .came),
     )
 
+same-length : tie.Need-same-length Inv-loop μ-loop
+same-length c = search needs
+
 returns : tie.Need-returns Inv-loop μ-loop
-returns c = let S = c .before .before .before .before .before in
+returns c = let S = c .before .before .before .before .before .before in
     let i = itemIn (S .args .table .now) (S .args .at) in
     let (n, p, col) = c .before .loop .inv in
     let t = c .loop-test .left in
@@ -113,4 +117,5 @@ note-set-spec =
     add-j
     loop-less
     loop-again
+    same-length
     returns)

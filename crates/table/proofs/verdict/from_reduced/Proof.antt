@@ -20,13 +20,13 @@ enum-told c = search needs
 
 from-ring-requires : tie.Need-from-ring-requires
 from-ring-requires c κs =
-    let S = c .before .before .before .before in
+    let S = c .before .before .before .before .before in
     let g = grammarIn (S .args .table .now) in
-    (S .pre .0, S .pre .1, subst (Finds (NotReduced g) (Reduced g)) (c .enum-told .given .1) (c .before .before .lowest-fault .ensures))
+    (S .pre .0, S .pre .1, subst (Finds (NotReduced g) (Reduced g)) (c .enum-told .given .1) (c .before .before .lowest-fault .ensures), S .pre .2)
 
 returns : tie.Need-returns
 returns c =
-    let g = grammarIn (c .before .before .before .before .before .args .table .now) in
+    let g = grammarIn (c .before .before .before .before .before .before .args .table .now) in
     fault-answer (subst (Finds (NotReduced g) (Reduced g)) (c .before .fault .given .1) (c .before .before .before .lowest-fault .ensures))
 
 returns-2 : tie.Need-returns-2

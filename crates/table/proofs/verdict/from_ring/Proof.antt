@@ -20,14 +20,14 @@ enum-told c = search needs
 
 from-1-requires : tie.Need-from-1-requires
 from-1-requires c κs =
-    let S = c .before .before .before .before in
+    let S = c .before .before .before .before .before in
     let g = grammarIn (S .args .table .now) in
-    (S .pre .0, S .pre .1, S .pre .2, subst (Finds (OnRing g) (NoRing g)) (c .enum-told .given .1) (c .before .before .lowest-ring .ensures))
+    (S .pre .0, S .pre .1, S .pre .2, subst (Finds (OnRing g) (NoRing g)) (c .enum-told .given .1) (c .before .before .lowest-ring .ensures), S .pre .3)
 
 returns : tie.Need-returns
 returns c =
-    let g = grammarIn (c .before .before .before .before .before .args .table .now) in
-    ring-answer (c .before .before .before .before .before .pre .2) (subst (Finds (OnRing g) (NoRing g)) (c .before .ring .given .1) (c .before .before .before .lowest-ring .ensures))
+    let g = grammarIn (c .before .before .before .before .before .before .args .table .now) in
+    ring-answer (c .before .before .before .before .before .before .pre .2) (subst (Finds (OnRing g) (NoRing g)) (c .before .ring .given .1) (c .before .before .before .lowest-ring .ensures))
 
 returns-2 : tie.Need-returns-2
 returns-2 c = search needs
