@@ -13,7 +13,7 @@ pub struct Times {
 const PATIENCE: Duration = Duration::from_secs(2);
 const LEAST_TURNS: usize = 10;
 /// How often a side is called in one turn. After its first call its own table and room are in the caches, not the other side's: two rooms for
-/// 4,096 tokens have 3 MB.
+/// 4,096 tokens have 2.4 to 8.9 MB.
 const CALLS: usize = 8;
 /// How often a case is run with cold caches.
 const COLD_RUNS: usize = 41;

@@ -8,10 +8,8 @@ use crate::run::run;
 use lines::Shape;
 use table::ACTS;
 use table::GOES;
+use table::SYMBOLS;
 use table::look_ups;
-
-// How many symbols a table may have, the end mark among them.
-const SYMBOLS: usize = Shape::MAX_TERMS + Shape::MAX_NONTERMS + 1;
 
 // A table of at most so many states gets look-ups of few entries: all entries are made zero for each judgement.
 const FEW: usize = 16;
@@ -22,7 +20,7 @@ const FEW_ACTS: usize = Shape::MAX_TERMS * FEW;
 // Enough entries for symbols and few states.
 const FEW_GOES: usize = SYMBOLS * FEW;
 
-// One of at most so many gets look-ups of some more.
+// A table of more states, but at most so many, gets look-ups of a middle size.
 const MORE: usize = 64;
 
 // Enough entries for tokens and so many states.

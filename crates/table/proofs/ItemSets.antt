@@ -1,13 +1,13 @@
 -- The look-ahead sets noted while a state's items are read.
-use Prim.Native.Nat.{ℕ, zero, suc, _+_, _-_, _≤_}
+use Prim.Native.Nat.{ℕ, zero, suc, _+_, _-_, _/_, _≤_}
 use native.Mathlib.Omega.{arith}
 use native.Mathlib.Numerals.{add-one}
 use mathlib.Core.Path.{_≡_, refl, sym, ap, subst, _∙_}
 use mathlib.Core.Bool.{Bool, true, _&&_}
 use mathlib.Core.List.{List, [], _∷_}
 use mathlib.Core.List.{List·Memᴰ as Mem}
-use lib.ListN.{length, getD, take, drop, length-drop}
-use lib.Seq.{drop-drop, length-take-le}
+use lib.ListN.{length, getD, take, drop, set, length-drop, length-set}
+use lib.Seq.{drop-drop, length-take-le, getD-set-same, getD-set-other}
 use lib.Dec.{leb}
 use borrow.Author.Count.{below-more}
 use borrow.Author.Tests.{leb-true}
@@ -15,7 +15,7 @@ use Rattle.theory.specs.Basics.{both}
 use Rattle.lines.specs.Lines.Fits.{at, aheadFits, fitsItem}
 use Rattle.table.specs.Items.{itemIn}
 use Rattle.table.specs.Sets.{SetOf}
-use Rattle.table.specs.States.{numbersAt, Numbers, linePlace, SetIn, SetWritten, SetsTo}
+use Rattle.table.specs.States.{numbersAt, Numbers, linePlace, SetIn, SetsTo}
 
 -- ---- lists
 
@@ -71,21 +71,28 @@ place-next ns from k p n e q =
 module _ {ns : List ℕ} {t from k p : ℕ} {before after : List ℕ} (h : SetsTo ns t from k p before after) (here : p ≡ linePlace ns from k) where
   -- one item more
   pub sets-more : {n v : ℕ} {next : List ℕ} → from ≤ p → 3 ≤ n → (xs : List ℕ) → xs ≡ numbersAt ns p →
-      SetOf (λ a. Mem a (drop 2 xs)) (suc t) v → SetWritten p v after next → SetsTo ns t from (k + 1) (p + 1 + n) before next
+      SetOf (λ a. Mem a (drop 2 xs)) (suc t) v → next ≡ set after (p / 4) v → SetsTo ns t from (k + 1) (p + 1 + n) before next
   sets-more {n} {v} {next} past some xs q sets w = record {
-    long = w .long ∙ h .long;
+    long = long ∙ h .long;
     each = below-more _ _ (λ i l. let (a, b) = h .each i l in (old i a b, omega arith)) (subst (λ y. SetIn ns t next y × (y + 4 ≤ p + 1 + n)) here (new, omega arith));
-    kept = λ y l. w .kept y (omega arith) ∙ h .kept y l;
+    kept = λ y l. kept y (omega arith) ∙ h .kept y l;
   }
     where
+      long : length next ≡ length after
+      long = ap (λ (l : List ℕ). length l) w ∙ length-set after (p / 4) v
+
+      kept : (y : ℕ) → y + 4 ≤ p → getD next (y / 4) 0 ≡ getD after (y / 4) 0
+      kept y l = ap (λ (x : List ℕ). getD x (y / 4) 0) w ∙ getD-set-other after (p / 4) (y / 4) v 0 (λ e. omega arith)
+
       old : (i : ℕ) → SetIn ns t after (linePlace ns from i) → linePlace ns from i + 4 ≤ p → SetIn ns t next (linePlace ns from i)
       old i a b r =
           let y = linePlace ns from i in
-          let e = w .long in
-          subst (SetOf (λ x. Mem x (itemIn ns y .ahead)) (suc t)) (sym (w .kept y b)) (a (omega arith))
+          let e = long in
+          subst (SetOf (λ x. Mem x (itemIn ns y .ahead)) (suc t)) (sym (kept y b)) (a (omega arith))
 
       new : SetIn ns t next p
       new r =
-          let e = w .long in
-          subst (SetOf (λ x. Mem x (itemIn ns p .ahead)) (suc t)) (sym (w .here (omega arith)))
+          let e = long in
+          subst (SetOf (λ x. Mem x (itemIn ns p .ahead)) (suc t))
+          (sym (ap (λ (x : List ℕ). getD x (p / 4) 0) w ∙ getD-set-same after (p / 4) v 0 (omega arith)))
           (subst (λ l. SetOf (λ x. Mem x l) (suc t) v) (ap (drop 2) q ∙ ahead-is ns p) sets)

@@ -142,9 +142,9 @@ module _ {ns : List ℕ} {p line : ℕ} {s : Shape} {lengths ra sa : List ℕ} (
   due-is : (w : Due) → s .due ≡ w → h .draft .due ≡ dueOf w
   due-is w e = sym (due-same (h .shaped)) ∙ ap dueOf e
 
-  -- there is room to note the line's place
+  -- there is room to note a rule's place
   pub walk-notable : p < length ns → length ns ≤ maxNumbers → Notable s p
-  walk-notable l m = record { small = omega arith; rule = rule; state = state }
+  walk-notable l m = record { small = omega arith; rule = rule }
     where
       rule : s .due ≡ Rule → s .rules < maxRules
       rule e =
@@ -152,16 +152,6 @@ module _ {ns : List ℕ} {p line : ℕ} {s : Shape} {lengths ra sa : List ℕ} (
           let b = h .shaped .bounded .rules-in in
           let r = ap (λ (x : Shape). x .rules) (h .shaped .same) in
           omega arith
-
-      state : s .due ≡ State → (s .«states_left» ≤ s .states) × (s .states - s .«states_left» < maxStates)
-      state e =
-          let st : Stands ns p sa (h .draft) L.Due.state = subst (Stands ns p sa (h .draft)) (due-is State e) (h .drafted .stands) in
-          let c = st .1 in
-          let d = st .2 in
-          let b = h .shaped .bounded .states-in in
-          let j = ap (λ (x : Shape). x .«states_left») (h .shaped .same) in
-          let m = ap (λ (x : Shape). x .states) (h .shaped .same) in
-          (omega arith, omega arith)
 
   -- the count at p, and what is left after it
   cons : p < length ns → drop p ns ≡ getD ns p 0 ∷ drop (suc p) ns

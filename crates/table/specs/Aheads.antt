@@ -1,5 +1,5 @@
--- The look-ahead sets of all items, made once: the set of the item at a place stands at a quarter of the place, since an item's line has at
--- least four numbers.
+-- The look-ahead sets of all items, made once: the set of the item at a place stands at a quarter of the place, since an item's line takes at
+-- least four, its count among them.
 use Prim.Native.Nat.{ℕ, suc, _+_, _*_, _/_, _≤_, _<_}
 use mathlib.Core.List.{List}
 use mathlib.Core.List.{List·Memᴰ as Mem}

@@ -3,7 +3,7 @@ use Prim.Native.Nat.{ℕ, _-_, _≤_, _<_}
 use mathlib.Core.Path.{_≡_}
 use mathlib.Core.List.{List}
 use lib.ListN.{set}
-use Rattle.lines.specs.Limits.{maxRules, maxStates, maxNumbers}
+use Rattle.lines.specs.Limits.{maxRules, maxNumbers}
 use Rattle.lines.specs.Lines.{Lined, readNumbers}
 use Rattle.lines.specs.Ranges.{finished}
 use Rattle.lines.specs.declared.shape.Due.the-variants.{Terms, Nonterms, Rules, Rule, States, State, Item, Go, End}
@@ -40,11 +40,10 @@ statesWith s places p = elim (s .due) [
   | End ↦ places
 ]
 
--- a line may be noted at its place: there is room for it
+-- a rule line may be noted at its place: there is room for it
 pub record Notable (s : Shape) (p : ℕ) : Type 0 where
   pub small : p ≤ maxNumbers
   pub rule : s .due ≡ Rule → s .rules < maxRules
-  pub state : s .due ≡ State → (s .«states_left» ≤ s .states) × (s .states - s .«states_left» < maxStates)
 
 -- the sizes that a shape says
 abbrev pub sizesOf : Shape → Sizes

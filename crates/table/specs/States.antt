@@ -66,7 +66,7 @@ inState z j zero zero a = shapeIn (dueWhile j State End) z j 0 0 0
 inState z j zero (suc l) a = shapeIn Go z j 0 (suc l) a
 inState z j (suc i) l a = shapeIn Item z j (suc i) l a
 
--- the sizes are within the limits, and so are the numbers and their place
+-- kinds, rules and states are within the limits, the lengths have all their places, the numbers are not too many, and the place is inside them
 pub record Readable (ns lengths : List ℕ) (z : Sizes) (from : ℕ) : Type 0 where
   pub few : length ns ≤ maxNumbers
   pub inside : from ≤ length ns
@@ -77,7 +77,7 @@ pub record Readable (ns lengths : List ℕ) (z : Sizes) (from : ℕ) : Type 0 wh
 
 -- ---- lines one after the other
 
--- so many lines were read from one place to another: each has a count at least
+-- the place reached is inside the numbers, and at least as many places on as lines were read: each has a count at least
 pub record Reach (ns : List ℕ) (from at done : ℕ) : Type 0 where
   pub inside : at ≤ length ns
   pub counted : from + done ≤ at
@@ -104,12 +104,6 @@ linePlace ns p (suc k) = linePlace ns p k + 1 + getD ns (linePlace ns p k) 0
 -- the set of the item at a place is noted, if there is room for it
 abbrev pub SetIn : List ℕ → ℕ → List ℕ → ℕ → Type 0
 SetIn ns terms sets p = p < 4 * length sets → SetOf (λ a. Mem a (itemIn ns p .ahead)) (suc terms) (getD sets (p / 4) 0)
-
--- the sets with that of the item at a place written, if there is room for it
-pub record SetWritten (p set : ℕ) (before after : List ℕ) : Type 0 where
-  pub long : length after ≡ length before
-  pub here : p < 4 * length before → getD after (p / 4) 0 ≡ set
-  pub kept : (q : ℕ) → q + 4 ≤ p → getD after (q / 4) 0 ≡ getD before (q / 4) 0
 
 -- the sets of the first k items from a place on are noted, up to another place; those of items before them are as they were
 pub record SetsTo (ns : List ℕ) (terms from k at : ℕ) (before after : List ℕ) : Type 0 where

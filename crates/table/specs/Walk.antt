@@ -43,7 +43,7 @@ pub record Drafted (ns : List ℕ) (p : ℕ) (rulePlaces statePlaces : List ℕ)
   pub rules-at : RulesAt ns rulePlaces (grammarOf d)
   pub stands : Stands ns p statePlaces d (d .due)
 
--- all numbers before p are lines that fit, and line lines
+-- the numbers before p are so many lines, and all of them fit; reading on from there is reading the whole
 pub record Walked (ns : List ℕ) (p line : ℕ) (s : Shape) (lengths ra sa : List ℕ) : Type 0 where
   pub draft : Draft
   pub shaped : Shaped s lengths draft

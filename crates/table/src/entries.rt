@@ -30,8 +30,11 @@ use lines::Shape;
 // Enough entries for tokens and states, whatever the table.
 pub const ACTS: usize = Shape::MAX_TERMS * Shape::MAX_STATES;
 
-// Enough entries for symbols and states, the end mark's among them, whatever the table.
-pub const GOES: usize = (Shape::MAX_TERMS + Shape::MAX_NONTERMS + 1) * Shape::MAX_STATES;
+// How many symbols a table may have, the end mark among them.
+pub const SYMBOLS: usize = Shape::MAX_TERMS + Shape::MAX_NONTERMS + 1;
+
+// Enough entries for symbols and states, whatever the table.
+pub const GOES: usize = SYMBOLS * Shape::MAX_STATES;
 
 // Makes all entries 0.
 fn clear(entries: &mut [u16])
@@ -197,6 +200,7 @@ pub fn look_ups(
 {
     let mut rule_at = [0u16; Shape::MAX_RULES];
     let mut state_at = [0u16; Shape::MAX_STATES];
+    // Reading notes look-ahead sets where there is room; none is needed here.
     let mut none = [0u64; 1];
     let read = read_lines(table, &mut rule_at, &mut state_at, &mut none);
     let Read::Fits(sizes) = read else {

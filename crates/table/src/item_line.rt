@@ -12,13 +12,14 @@ use lines::Shape;
 // How many numbers a set of 64 bits can have.
 const SET_SIZE: usize = 64;
 
-// Whether a look-ahead set fits, and if so its members as one number.
+// Whether an item line, or its look-ahead set alone, fits, and if so the members of the set as one number.
 pub(crate) struct Ahead {
     pub fits: bool,
     pub set: u64,
 }
 
-// Reads a look-ahead set. Of members that rise the last tells for all whether they are kinds or the end mark.
+// Reads a look-ahead set. Of members that rise the last tells for all whether they are kinds or the end mark. A member too large for a set is cut;
+// then the last one is too large as well, and the set does not fit.
 fn read_ahead(terms: usize, ahead: &[u16]) -> Ahead
     requires { ⌜ terms ≤ maxTerms ⌝ }
     ensures { λ r. ⌜ AheadRead terms (now (ahead .entry)) (r .fits) (r .set) ⌝ }
@@ -56,7 +57,7 @@ fn right_length(lengths: &[u8; Shape::MAX_RULES], rules: usize, rule: usize) -> 
     }
 }
 
-// Reads the numbers of an item line.
+// Reads the numbers of an item line: the tests of `lines::fits_item_of`, and the set is made on the way.
 pub(crate) fn read_item(
     terms: usize,
     rules: usize,

@@ -3,6 +3,7 @@ ghost use Prim.Native.Nat.{_*_, _≤_};
 ghost use lib.ListN.{length};
 ghost use Rattle.lines.specs.Limits.{maxNumbers};
 ghost use Rattle.table.specs.Check.{Checks};
+use aheads::SPREAD;
 use lines::Shape;
 use verdict::from_reduced;
 use walk::read_lines;
@@ -30,6 +31,7 @@ mod verdict; // verdict.rt: the grammar first, then the conditions, in document 
 
 pub use entries::ACTS;
 pub use entries::GOES;
+pub use entries::SYMBOLS;
 pub use entries::look_ups;
 
 // How many kinds, nonterminals, rules and states a table has.
@@ -77,9 +79,6 @@ pub enum Check {
     Broken(usize, usize),
 }
 
-// Numbers of a table for each place of a look-ahead set: an item's line has at least four.
-const SPREAD: usize = 4;
-
 // Places for the look-ahead sets of a table of at most 512 numbers.
 const FEW: usize = 128;
 
@@ -87,10 +86,10 @@ const FEW: usize = 128;
 const SOME: usize = 512;
 
 // The same for 8,192 numbers.
-const MANY: usize = 2048;
+const MORE: usize = 2048;
 
 // The same for 24,000 numbers.
-const MORE: usize = 6000;
+const MANY: usize = 6000;
 
 // The same for as many numbers as a table may have.
 const MOST: usize = Shape::MAX_NUMBERS / SPREAD;
@@ -123,12 +122,12 @@ pub fn check_table(table: &[u16]) -> Check
         let mut sets = [0u64; SOME];
         return check_in(table, &mut sets);
     }
-    if n <= SPREAD * MANY {
-        let mut sets = [0u64; MANY];
-        return check_in(table, &mut sets);
-    }
     if n <= SPREAD * MORE {
         let mut sets = [0u64; MORE];
+        return check_in(table, &mut sets);
+    }
+    if n <= SPREAD * MANY {
+        let mut sets = [0u64; MANY];
         return check_in(table, &mut sets);
     }
     let mut sets = [0u64; MOST];

@@ -1,6 +1,6 @@
 // The lines of a table's states, read one after the other: state lines, item lines with their look-ahead sets, and go lines.
 ghost use mathlib.Core.Path.{_≡_};
-ghost use mathlib.Core.Bool.{true};
+ghost use mathlib.Core.Bool.{true, false};
 ghost use mathlib.Core.List.{List};
 ghost use Prim.Native.Nat.{ℕ, _+_, _≤_};
 ghost use lib.ListN.{length, getD};
@@ -8,9 +8,10 @@ ghost use Rattle.lines.specs.Limits.{maxStates};
 ghost use Rattle.table.specs.Aheads.{SetsRead};
 ghost use Rattle.table.specs.Lined.{Reads};
 ghost use Rattle.table.specs.Walk.{Walked};
-ghost use Rattle.table.specs.States.{Numbers, inState, Readable, Reach, Goes, StateGoes, SetWritten, SetsTo};
+ghost use Rattle.table.specs.States.{Numbers, inState, Readable, Reach, Goes, StateGoes, SetsTo};
 use crate::Read;
 use crate::Sizes;
+use crate::aheads::write_set;
 use crate::item_line::read_item;
 use crate::places::number;
 use lines::Shape;
@@ -20,6 +21,17 @@ pub(crate) struct Reached {
     pub at: usize,
     pub done: usize,
     pub whole: bool,
+}
+
+// The reading stops: the line at this place does not fit.
+fn stopped(at: usize, done: usize) -> Reached
+    ensures { λ r. ⌜ r ≡ record { at = at; done = done; whole = false } ⌝ }
+{
+    Reached {
+        at: at,
+        done: done,
+        whole: false,
+    }
 }
 
 // How many numbers the line at a place has; none where no whole line stands.
@@ -37,16 +49,7 @@ fn numbers_at(table: &[u16], at: usize) -> usize
     n
 }
 
-// Writes the look-ahead set of the item at a place, if there is room for it.
-fn note_set(sets: &mut [u64], at: usize, set: u64)
-    ensures { λ _. ⌜ SetWritten at set (now (sets .entry)) (now (sets .exit)) ⌝ }
-{
-    if at / 4 < sets.len() {
-        sets[at / 4] = set;
-    }
-}
-
-// The item lines of a state. Their look-ahead sets are noted.
+// The item lines of a state. Their look-ahead sets are written where there is room.
 fn read_items(
     table: &[u16],
     sizes: Sizes,
@@ -64,23 +67,15 @@ fn read_items(
     while done < count {
         let n = numbers_at(table, at);
         if n == 0 {
-            return Reached {
-                at: at,
-                done: done,
-                whole: false,
-            };
+            return stopped(at, done);
         }
         let first = at + 1;
         let to = first + n;
         let got = read_item(sizes.terms, sizes.rules, lengths, &table[first..to]);
         if !got.fits {
-            return Reached {
-                at: at,
-                done: done,
-                whole: false,
-            };
+            return stopped(at, done);
         }
-        note_set(sets, at, got.set);
+        write_set(sets, at, got.set);
         at = to;
         done += 1;
     }
@@ -108,11 +103,7 @@ fn read_gos(
     while done < count {
         let n = numbers_at(table, at);
         if n == 0 {
-            return Reached {
-                at: at,
-                done: done,
-                whole: false,
-            };
+            return stopped(at, done);
         }
         let first = at + 1;
         let to = first + n;
@@ -123,11 +114,7 @@ fn read_gos(
             above,
             &table[first..to],
         ) {
-            return Reached {
-                at: at,
-                done: done,
-                whole: false,
-            };
+            return stopped(at, done);
         }
         above = number(table, first) + 1;
         at = to;
@@ -154,27 +141,15 @@ fn read_state(
 {
     let n = numbers_at(table, from);
     if n == 0 {
-        return Reached {
-            at: from,
-            done: 0,
-            whole: false,
-        };
+        return stopped(from, 0);
     }
     if !lines::fits_state(&table[from + 1..from + 1 + n]) {
-        return Reached {
-            at: from,
-            done: 0,
-            whole: false,
-        };
+        return stopped(from, 0);
     }
     let items = number(table, from + 1);
     let a = read_items(table, sizes, lengths, from + 3, items, sets);
     if !a.whole {
-        return Reached {
-            at: a.at,
-            done: 1 + a.done,
-            whole: false,
-        };
+        return stopped(a.at, 1 + a.done);
     }
     let gos = number(table, from + 2);
     let b = read_gos(table, sizes, lengths, a.at, gos);
@@ -185,7 +160,8 @@ fn read_state(
     }
 }
 
-// The lines of all states, which begin at a place with that line. The states' places are noted.
+// The lines of all states, from a place on; `first` is the number of the first one. The states' places are noted, and the look-ahead sets if there
+// is room for all.
 pub(crate) fn read_states(
     table: &[u16],
     sizes: Sizes,

@@ -56,7 +56,7 @@ fn sizes_of(s: Shape) -> Sizes
     }
 }
 
-// All lines of a table: those before the states one by one, then those of the states. The look-ahead sets for which there is room are noted.
+// All lines of a table: those before the states one by one, then those of the states. If there is room for all look-ahead sets, they are noted.
 pub(crate) fn read_lines(
     table: &[u16],
     rule_at: &mut [u16; Shape::MAX_RULES],

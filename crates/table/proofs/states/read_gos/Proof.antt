@@ -23,10 +23,13 @@ loop-holds c = let S = c .before in
 numbers-at-requires : tie.Need-numbers-at-requires Inv-loop μ-loop
 numbers-at-requires c κs = search needs
 
+stopped-requires : tie.Need-stopped-requires Inv-loop μ-loop
+stopped-requires c κs = tt
+
 returns : tie.Need-returns Inv-loop μ-loop
-returns c = let S = c .before .before .before .before .before in
-    let (r, w, g) = c .before .before .before .loop .inv in
-    (r, gos-none g (c .before .before .loop-test .taken) (S .pre .few) (c .if1 .taken) (c .before .numbers-at .ensures))
+returns c = let S = c .before .before .before .before .before .before in
+    let (r, w, g) = c .before .before .before .before .loop .inv in
+    rw (c .stopped .ensures) (r, gos-none g (c .before .before .before .loop-test .taken) (S .pre .few) (c .before .if1 .taken) (c .before .before .numbers-at .ensures))
 
 add-first : tie.Need-add-first Inv-loop μ-loop
 add-first c = search needs
@@ -53,13 +56,16 @@ part-fits-go-end c = let l = c .if1 .left in line-inside (c .before .numbers-at 
 fits-go-requires : tie.Need-fits-go-requires Inv-loop μ-loop
 fits-go-requires c κs = search needs
 
+stopped-requires-2 : tie.Need-stopped-requires-2 Inv-loop μ-loop
+stopped-requires-2 c κs = tt
+
 returns-2 : tie.Need-returns-2 Inv-loop μ-loop
-returns-2 c = let S = c .before .before .before .before .before .before .before .before in
-    let (r, w, g) = c .before .before .before .before .before .before .loop .inv in
-    let l = c .before .before .before .if1 .left in
-    let k = c .before .before .before .before .numbers-at .ensures in
-    let some : 1 ≤ c .before .before .before .before .numbers-at .result = omega arith in
-    (r, gos-unfit g (c .before .before .before .before .before .loop-test .taken) (S .pre .few) some k _ (numbers-are k some) (told-false (c .before .fits-go .ensures) (c .if2 .taken)))
+returns-2 c = let S = c .before .before .before .before .before .before .before .before .before in
+    let (r, w, g) = c .before .before .before .before .before .before .before .loop .inv in
+    let l = c .before .before .before .before .if1 .left in
+    let k = c .before .before .before .before .before .numbers-at .ensures in
+    let some : 1 ≤ c .before .before .before .before .before .numbers-at .result = omega arith in
+    rw (c .stopped2 .ensures) (r, gos-unfit g (c .before .before .before .before .before .before .loop-test .taken) (S .pre .few) some k _ (numbers-are k some) (told-false (c .before .before .fits-go .ensures) (c .before .if2 .taken)))
 
 number-requires : tie.Need-number-requires Inv-loop μ-loop
 number-requires c κs = let l = c .before .before .before .if1 .left in
@@ -102,6 +108,7 @@ read-gos-spec =
     μ-loop
     loop-holds
     numbers-at-requires
+    stopped-requires
     returns
     add-first
     add-to
@@ -110,6 +117,7 @@ read-gos-spec =
     part-fits-go-start
     part-fits-go-end
     fits-go-requires
+    stopped-requires-2
     returns-2
     number-requires
     add-above

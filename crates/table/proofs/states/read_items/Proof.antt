@@ -30,13 +30,16 @@ loop-holds c = let S = c .before .before in
 numbers-at-requires : tie.Need-numbers-at-requires Inv-loop μ-loop
 numbers-at-requires c κs = search needs
 
+stopped-requires : tie.Need-stopped-requires Inv-loop μ-loop
+stopped-requires c κs = tt
+
 same-length : tie.Need-same-length Inv-loop μ-loop
-same-length c = c .before .before .before .loop .inv .4 .long
+same-length c = c .before .before .before .before .loop .inv .4 .long
 
 returns : tie.Need-returns Inv-loop μ-loop
-returns c = let S = c .before .before .before .before .before .before in
-    let (r, w, g, p, e) = c .before .before .before .loop .inv in
-    ((r, items-none g (c .before .before .loop-test .taken) (S .pre .few) (c .if1 .taken) (c .before .numbers-at .ensures)), λ b. absurd (false≢true b))
+returns c = let S = c .before .before .before .before .before .before .before in
+    let (r, w, g, p, e) = c .before .before .before .before .loop .inv in
+    rw (c .stopped .ensures) ((r, items-none g (c .before .before .before .loop-test .taken) (S .pre .few) (c .before .if1 .taken) (c .before .before .numbers-at .ensures)), λ b. absurd (false≢true b))
 
 add-first : tie.Need-add-first Inv-loop μ-loop
 add-first c = search needs
@@ -63,19 +66,22 @@ part-read-item-end c = let l = c .if1 .left in line-inside (c .before .numbers-a
 read-item-requires : tie.Need-read-item-requires Inv-loop μ-loop
 read-item-requires c κs = search needs
 
+stopped-requires-2 : tie.Need-stopped-requires-2 Inv-loop μ-loop
+stopped-requires-2 c κs = tt
+
 same-length-2 : tie.Need-same-length-2 Inv-loop μ-loop
-same-length-2 c = c .before .before .before .before .before .before .before .loop .inv .4 .long
+same-length-2 c = c .before .before .before .before .before .before .before .before .loop .inv .4 .long
 
 returns-2 : tie.Need-returns-2 Inv-loop μ-loop
-returns-2 c = let S = c .before .before .before .before .before .before .before .before .before .before in
-    let (r, w, g, p, e) = c .before .before .before .before .before .before .before .loop .inv in
-    let l = c .before .before .before .before .if1 .left in
-    let k = c .before .before .before .before .before .numbers-at .ensures in
-    let some : 1 ≤ c .before .before .before .before .before .numbers-at .result = omega arith in
-    ((r, items-unfit g (c .before .before .before .before .before .before .loop-test .taken) (S .pre .few) some k _ (numbers-are k some) (told-false (c .before .before .read-item .ensures .told) (c .if2 .taken))), λ b. absurd (false≢true b))
+returns-2 c = let S = c .before .before .before .before .before .before .before .before .before .before .before in
+    let (r, w, g, p, e) = c .before .before .before .before .before .before .before .before .loop .inv in
+    let l = c .before .before .before .before .before .if1 .left in
+    let k = c .before .before .before .before .before .before .numbers-at .ensures in
+    let some : 1 ≤ c .before .before .before .before .before .before .numbers-at .result = omega arith in
+    rw (c .stopped2 .ensures) ((r, items-unfit g (c .before .before .before .before .before .before .before .loop-test .taken) (S .pre .few) some k _ (numbers-are k some) (told-false (c .before .before .before .read-item .ensures .told) (c .before .if2 .taken))), λ b. absurd (false≢true b))
 
-note-set-requires : tie.Need-note-set-requires Inv-loop μ-loop
-note-set-requires c κs = search needs
+write-set-requires : tie.Need-write-set-requires Inv-loop μ-loop
+write-set-requires c κs = search needs
 
 add-done : tie.Need-add-done Inv-loop μ-loop
 add-done c = search needs
@@ -100,7 +106,7 @@ loop-again c = let S = c .before .before .before .before .before .before .before
       omega arith,
       items-more g t some k _ q f,
       place-next _ _ _ _ _ p (k .some some .1),
-      sets-more e p (omega arith) (omega arith) _ q (c .before .before .before .before .before .before .read-item .ensures .set (not-false _ (c .before .before .before .before .if2 .left))) (c .before .before .note-set .ensures),
+      sets-more e p (omega arith) (omega arith) _ q (c .before .before .before .before .before .before .read-item .ensures .set (not-false _ (c .before .before .before .before .if2 .left))) (c .before .before .write-set .ensures),
     )
 
 same-length-3 : tie.Need-same-length-3 Inv-loop μ-loop
@@ -121,6 +127,7 @@ read-items-spec =
     μ-loop
     loop-holds
     numbers-at-requires
+    stopped-requires
     same-length
     returns
     add-first
@@ -130,9 +137,10 @@ read-items-spec =
     part-read-item-start
     part-read-item-end
     read-item-requires
+    stopped-requires-2
     same-length-2
     returns-2
-    note-set-requires
+    write-set-requires
     add-done
     loop-less
     loop-again

@@ -12,9 +12,12 @@ use Rattle.table.proofs.states.read_state.Tie as tie
 numbers-at-requires : tie.Need-numbers-at-requires
 numbers-at-requires c κs = search needs
 
+stopped-requires : tie.Need-stopped-requires
+stopped-requires c κs = tt
+
 returns : tie.Need-returns
-returns c = let S = c .before .before .before .before in
-    ((reach-none (S .pre .inside), state-missing (S .pre .few) (c .if1 .taken) (c .before .numbers-at .ensures)), λ w. absurd (false≢true w))
+returns c = let S = c .before .before .before .before .before in
+    rw (c .stopped .ensures) ((reach-none (S .pre .inside), state-missing (S .pre .few) (c .before .if1 .taken) (c .before .before .numbers-at .ensures)), λ w. absurd (false≢true w))
 
 add-fits-state : tie.Need-add-fits-state
 add-fits-state c = search needs
@@ -40,10 +43,13 @@ part-fits-state-end c = line-inside (c .before .numbers-at .ensures) (omega arit
 fits-state-requires : tie.Need-fits-state-requires
 fits-state-requires c κs = search needs
 
+stopped-requires-2 : tie.Need-stopped-requires-2
+stopped-requires-2 c κs = tt
+
 returns-2 : tie.Need-returns-2
-returns-2 c = let S = c .before .before .before .before .before .before .before in
-    let k = c .before .before .before .before .numbers-at .ensures in (
-      (reach-none (S .pre .inside), state-unfit (S .pre .few) (omega arith) k _ (numbers-are k (omega arith)) (sym (c .before .fits-state .ensures) ∙ not-true (c .before .fits-state .result) (c .if2 .taken))),
+returns-2 c = let S = c .before .before .before .before .before .before .before .before in
+    let k = c .before .before .before .before .before .numbers-at .ensures in rw (c .stopped2 .ensures) (
+      (reach-none (S .pre .inside), state-unfit (S .pre .few) (omega arith) k _ (numbers-are k (omega arith)) (sym (c .before .before .fits-state .ensures) ∙ not-true (c .before .before .fits-state .result) (c .before .if2 .taken))),
       λ w. absurd (false≢true w),
     )
 
@@ -73,21 +79,24 @@ read-items-requires c κs = let S = c .before .before .before .before .before .b
       states-in = S .pre .states-in;
     }
 
-add-t23 : tie.Need-add-t23
-add-t23 c = search needs
+add-stopped : tie.Need-add-stopped
+add-stopped c = search needs
+
+stopped-requires-3 : tie.Need-stopped-requires-3
+stopped-requires-3 c κs = tt
 
 same-length : tie.Need-same-length
 same-length c = search needs
 
 returns-3 : tie.Need-returns-3
-returns-3 c = let r = c .before .before .before .before .before .read-items .ensures .0 in
-    let k = c .before .before .before .before .before .before .before .before .before .before .before .before .numbers-at .ensures in
-    let f = sym (c .before .before .before .before .before .before .before .before .before .fits-state .ensures) ∙ not-false (c .before .before .before .before .before .before .before .before .before .fits-state .result) (c .before .before .before .before .before .before .before .before .if2 .left) in
+returns-3 c = let r = c .before .before .before .before .before .before .read-items .ensures .0 in
+    let k = c .before .before .before .before .before .before .before .before .before .before .before .before .before .numbers-at .ensures in
+    let f = sym (c .before .before .before .before .before .before .before .before .before .before .fits-state .ensures) ∙ not-false (c .before .before .before .before .before .before .before .before .before .before .fits-state .result) (c .before .before .before .before .before .before .before .before .before .if2 .left) in
     let x = r .0 .inside in
-    let y = r .0 .counted in (
+    let y = r .0 .counted in rw (c .stopped3 .ensures) (
       (
         record { inside = x; counted = omega arith },
-        items-stop (omega arith) k _ (numbers-are k (omega arith)) f (c .before .before .before .before .before .before .before .number .ensures) (not-true (c .before .before .before .before .before .read-items .result .whole) (c .before .if3 .taken)) (r .1),
+        items-stop (omega arith) k _ (numbers-are k (omega arith)) f (c .before .before .before .before .before .before .before .before .number .ensures) (not-true (c .before .before .before .before .before .before .read-items .result .whole) (c .before .before .if3 .taken)) (r .1),
       ),
       λ w. absurd (false≢true w),
     )
@@ -131,6 +140,7 @@ read-state-spec =
     tie.close
     (tie.spec
     numbers-at-requires
+    stopped-requires
     returns
     add-fits-state
     add-fits-state-2
@@ -140,12 +150,14 @@ read-state-spec =
     part-fits-state-start
     part-fits-state-end
     fits-state-requires
+    stopped-requires-2
     returns-2
     add-number
     number-requires
     add-read-items
     read-items-requires
-    add-t23
+    add-stopped
+    stopped-requires-3
     same-length
     returns-3
     add-number-2
