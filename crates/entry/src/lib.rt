@@ -1,4 +1,6 @@
 // The reader, the check and the judge for programs in C: slices as a pointer and a length each, the outcome as one number.
+#![tactic(auto)]
+
 ghost use Rattle.std.specs.Prelude.{◌≡◌, ◌<◌};
 ghost use Rattle.entry.specs.Packed.{Packs, read_numbers, ReadsAs, ChecksAs, JudgesAs};
 

@@ -1,6 +1,8 @@
 // The forest of stacks in a lent room: the empty forest, the forest of a tail's first token, and the forest after each later one.
 // The room is the forest's whole state. A `Forest` tells what the judge asks of it. The rows are the look-ups of a table that passes,
 // built once: see `specs/Rows.antt`.
+#![tactic(auto)]
+
 mod paths;
 mod phase;
 mod steps;
@@ -19,7 +21,7 @@ use steps::{extend, shift};
 use words::{ASIDE, FREE, ROOTS, UNUSED, get};
 
 // What is told of the forest that a room holds: whether it is empty, and the steps that the last token took.
-#[derive(Drop)]
+#[derive(Clone, Copy)]
 pub struct Forest {
     pub empty: bool,
     pub steps: usize,

@@ -75,7 +75,7 @@ fn meet(room: &mut [u32], a: usize, b: usize)
 }
 
 // A place in the list of roots: the word of the node that leads to the rest, and the rest.
-#[derive(Drop)]
+#[derive(Clone, Copy)]
 struct Place {
     node: usize,
     word: usize,

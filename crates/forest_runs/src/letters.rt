@@ -5,7 +5,7 @@ use crate::places::JUNK;
 use libc::STDOUT_FILENO;
 
 // How many entries were read, and the place after the byte that ends them.
-#[derive(Drop)]
+#[derive(Clone, Copy)]
 pub(crate) struct Found {
     pub(crate) count: usize,
     pub(crate) next: usize,

@@ -1,4 +1,6 @@
 // The judge of tails: every table, tail and room gets its numbered answer.
+#![tactic(auto)]
+
 mod numbers; // numbers.rt: document 01's numbers for a refusal
 mod ready; // ready.rt: a tail that is in order, by a table that passes
 mod room; // room.rt: the room after a judgement
@@ -16,7 +18,7 @@ use table::{Check, check_table};
 use tail::{first_strange, token};
 
 // What comes back: document 01's answer, its value, and the forest's own count of steps.
-#[derive(Drop)]
+#[derive(Clone, Copy)]
 pub struct Judgement {
     pub answer: usize,
     pub value: usize,

@@ -7,7 +7,7 @@ use crate::next::next;
 use crate::shape::{Due, Shape};
 
 // What taking a line in gives.
-#[derive(Drop)]
+#[derive(Clone, Copy)]
 pub enum Accepted {
     Next(Shape),
     Unfit,

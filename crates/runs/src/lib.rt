@@ -8,7 +8,7 @@ use libc::STDOUT_FILENO;
 const MAX_NUMBER: usize = 100000;
 
 // A number, and the place after it.
-#[derive(Drop)]
+#[derive(Clone, Copy)]
 pub struct Found {
     pub value: usize,
     pub next: usize,

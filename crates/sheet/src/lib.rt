@@ -1,4 +1,6 @@
 // The reader of sheets: from bytes to a table's numbers, and from a tail line to a tail's tokens.
+#![tactic(auto)]
+
 ghost use Rattle.std.specs.Prelude.{◌*◌, ◌≤◌, length};
 ghost use Rattle.lines.specs.Limits.{max_bytes};
 ghost use Rattle.sheet.specs.Reads.{ReadsInto, answer_of};
@@ -15,7 +17,7 @@ mod put; // put.rt: the numbers of a value written to a slice
 mod tail; // tail.rt: the pass over a tail line, which finds what it says
 
 // What the reader tells. A line is told by its number, from 0.
-#[derive(Drop)]
+#[derive(Clone, Copy)]
 pub enum Answer {
     // The table's numbers stand at the front of the slice: how many.
     Fit(usize),
@@ -78,7 +80,7 @@ pub fn read(bytes: &[u8], out: &mut [u16]) -> Answer
 }
 
 // What is told of a tail line.
-#[derive(Drop)]
+#[derive(Clone, Copy)]
 pub enum TailLine {
     // The tokens stand at the front of the slice: how many.
     Tokens(usize),

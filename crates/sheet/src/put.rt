@@ -5,7 +5,7 @@ ghost use Rattle.sheet.specs.Putting.{Puttable, PutAt};
 use crate::text::{DIGIT_0, LF, digit};
 
 // The place after a line, and how many numbers it has.
-#[derive(Drop)]
+#[derive(Clone, Copy)]
 pub(crate) struct Put {
     next: usize,
     count: usize,

@@ -11,7 +11,7 @@ use crate::text::{Line, due_line};
 use lines::{Due, Shape};
 
 // What the pass finds: a line missing, extra, without its LF or of a wrong key or form; a line of a wrong count or range; the count of numbers.
-#[derive(Drop)]
+#[derive(Clone, Copy)]
 pub(crate) enum Scanned {
     Bad(usize),
     Unfit(usize),

@@ -21,21 +21,21 @@ const MAX_DIGITS: usize = 5;
 pub(crate) const MAX_WORD: u32 = 65535;
 
 // The digits from a place on: how many, at most one more than a number has, and what they say.
-#[derive(Drop)]
+#[derive(Clone, Copy)]
 struct Digits {
     count: usize,
     value: u32,
 }
 
 // One number: what it says and the place after it, or not the form of a number.
-#[derive(Drop)]
+#[derive(Clone, Copy)]
 pub(crate) enum Numeral {
     Value(u32, usize),
     Bad,
 }
 
 // The numbers of a line: how many, in their form, and the place after the line's LF; in their form, but one is above 16 bits; not in their form.
-#[derive(Drop)]
+#[derive(Clone, Copy)]
 pub(crate) enum Line {
     Whole(usize, usize),
     Unfit,
@@ -103,7 +103,7 @@ pub(crate) fn number(s: &[u8], at: usize) -> Numeral
 }
 
 // Where the value of a line begins, or that the key is another.
-#[derive(Drop)]
+#[derive(Clone, Copy)]
 pub(crate) enum Opening {
     At(usize),
     No,

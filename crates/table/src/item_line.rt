@@ -11,7 +11,7 @@ use lines::Shape;
 const SET_SIZE: usize = 64;
 
 // Whether an item line, or its look-ahead set alone, fits, and if so the members of the set as one number.
-#[derive(Drop)]
+#[derive(Clone, Copy)]
 pub(crate) struct Ahead {
     pub fits: bool,
     pub set: u64,

@@ -1,4 +1,6 @@
 // The table check: whether a table of numbers passes.
+#![tactic(auto)]
+
 ghost use Rattle.std.specs.Prelude.{◌*◌, ◌≤◌, length};
 ghost use Rattle.lines.specs.Limits.{max_numbers};
 ghost use Rattle.table.specs.Check.{Checks};
@@ -32,7 +34,7 @@ mod verdict; // verdict.rt: the grammar first, then the conditions, in document 
 pub use entries::{ACTS, GOES, SYMBOLS, look_ups};
 
 // How many kinds, nonterminals, rules and states a table has.
-#[derive(Drop)]
+#[derive(Clone, Copy)]
 pub(crate) struct Sizes {
     pub terms: usize,
     pub nonterms: usize,
@@ -42,7 +44,7 @@ pub(crate) struct Sizes {
 
 // A notion of a grammar's nonterminals: it derives some string of tokens, it stands in some string derived from the start, or it comes to a
 // symbol through rules whose right side is one symbol.
-#[derive(Drop)]
+#[derive(Clone, Copy)]
 pub(crate) enum Notion {
     Productive,
     Reachable,
@@ -50,14 +52,14 @@ pub(crate) enum Notion {
 }
 
 // What a search found: a number, or none.
-#[derive(Drop)]
+#[derive(Clone, Copy)]
 pub(crate) enum Found {
     At(usize),
     Nothing,
 }
 
 // What reading a table's lines answers: too many numbers, the line that does not fit, or the sizes of the table.
-#[derive(Drop)]
+#[derive(Clone, Copy)]
 pub(crate) enum Read {
     TooLong,
     Unfit(usize),
@@ -65,7 +67,7 @@ pub(crate) enum Read {
 }
 
 // What the check tells. A line, a nonterminal or a state is told by its number.
-#[derive(Drop)]
+#[derive(Clone, Copy)]
 pub enum Check {
     // The table passes: how many states it has.
     Passes(usize),

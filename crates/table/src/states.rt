@@ -13,7 +13,7 @@ use crate::{Read, Sizes};
 use lines::Shape;
 
 // Where a reading of lines has come to, how many of them fit, and whether all do.
-#[derive(Drop)]
+#[derive(Clone, Copy)]
 pub(crate) struct Reached {
     pub at: usize,
     pub done: usize,
