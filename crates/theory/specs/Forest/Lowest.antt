@@ -1,6 +1,6 @@
 -- The chosen root is the one that document 01 says: "while some root reduces on t, take the one of lowest state". In a forest that rises, the
 -- first root that reduces is the lowest; where none is chosen, no root reduces.
-use Rattle.std.specs.Prelude.{ℕ, suc, ◌≤◌, ◌≡◌, ◌⊎◌}
+use Rattle.std.specs.Prelude.{ℕ, ◌≤◌, ◌≡◌, ◌⊎◌}
 use Rattle.std.proofs.Common.{arith, sym, ◌∙◌, inl, inr}
 use Rattle.std.proofs.Math.Path.{refl, ap}
 use Rattle.std.proofs.Math.Option.{Option, none, some, none-ne-some, some-injective}
@@ -14,6 +14,7 @@ Root s (tree u kids beside) = (s ≡ u) ⊎ Root s beside
 
 -- a lower bound of the first root is one of all, where they rise
 root_above : {m n s : ℕ} (f : Forest) → From n f → Rising m f → Root s f → n ≤ s
+root_above nothing from rising r = elim r [ ]
 root_above (tree u kids beside) (root l) (rises h above k b) (inl e) = omega arith
 root_above (tree u kids beside) (root l) (rises h above k b) (inr q) = let z = root_above beside above b q in omega arith
 
@@ -21,6 +22,7 @@ module _ (t : Table) (a : ℕ) where
   -- where none is chosen no root reduces
   pub none-reduces : (f : Forest) (s : ℕ) → choose t a f ≡ none → Root s f → reduce_on t s a ≡ none
   unfolding choose chosen
+  none-reduces nothing s e q = elim q [ ]
   none-reduces (tree u kids beside) s e q = go (reduce_on t u a) refl (choose t a beside) refl q (λ h r. none-reduces beside s h r)
     where
       go : (o : Option ℕ) → reduce_on t u a ≡ o → (d : Option Chosen) → choose t a beside ≡ d → Root s (tree u kids beside) →
@@ -34,6 +36,7 @@ module _ (t : Table) (a : ℕ) where
   pub chosen_lowest : {m : ℕ} (f : Forest) {c : Chosen} {s r : ℕ} → Rising m f → choose t a f ≡ some c → Root s f → reduce_on t s a ≡ some r →
       c.state ≤ s
   unfolding choose chosen
+  chosen_lowest nothing rising e q d = elim q [ ]
   chosen_lowest (tree u kids beside) {c} {s} {r} (rises h above k b) e q d =
       go (reduce_on t u a) refl (choose t a beside) refl q (λ c' z x. chosen_lowest beside b z x d)
     where

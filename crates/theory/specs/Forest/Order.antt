@@ -1,9 +1,9 @@
 -- The order of merging does not matter: merging is commutative and associative, for any forests. Document 01 says that trees with equal root
 -- states merge at once and leaves the order open; whichever is taken, the forest is the same.
-use Rattle.std.specs.Prelude.{ℕ, zero, suc, ◌+◌, ◌≤◌, ◌<◌, ◌≡◌, refl, not, ◌⊎◌, T}
+use Rattle.std.specs.Prelude.{ℕ, zero, suc, ◌+◌, ◌<◌, ◌≡◌, refl, not, ◌⊎◌, T}
 use Rattle.std.proofs.Common.{arith, sym, ap, ap₂, ◌∙◌, subst, inl, inr, lt-ltb, le-ltb, ne_eqb, eq-eqb}
 use Rattle.std.proofs.Math.Decide.{dec_lt}
-use Rattle.theory.specs.Forest.{Forest, nothing, tree, size, join, weave, meet, From, over, root}
+use Rattle.theory.specs.Forest.{Forest, nothing, tree, size, join, weave, meet, From, root}
 use Rattle.theory.specs.Forest.Joins.{join-ind, is_none}
 use Rattle.theory.specs.Forest.Sizes.{from_join}
 
