@@ -2,12 +2,9 @@
 use Prim.Native.Nat.{ℕ, zero, suc, ◌-◌, ◌<◌}
 use native.Mathlib.Omega.{arith}
 use mathlib.Core.Path.{◌≡◌, refl, sym, ap, ◌∙◌}
-use mathlib.Core.Bool.{Bool, true, false, not}
-use mathlib.Core.List.{List, [], ◌∷◌}
+use mathlib.Core.Bool.{Bool, true, false}
+use mathlib.Core.List.{List}
 use lib.ListN.{length}
-use types.Run.{OneOf, miss}
-use denote.Enum.Declared.{tag_of}
-use borrow.Author.Tests.{not-true, not-false}
 use Rattle.lines.specs.Limits.{max_rules, max_right}
 use Rattle.lines.specs.Lines.{less}
 use Rattle.lines.specs.Ranges.{Within}
@@ -16,7 +13,6 @@ use Rattle.lines.specs.Shape.Accepting.{rule_fits, rule_count}
 use Rattle.lines.specs.declared.shape.Due.{Due}
 use Rattle.lines.specs.declared.shape.Due.TheVariants.{Terms, Nonterms, Rules, Rule, States, State, Item, Go, End}
 use Rattle.lines.specs.declared.shape.Shape.{Shape}
-use Rattle.lines.specs.contracts.shape.Due.{the_type}
 
 -- ---- the shape that comes next
 
@@ -75,27 +71,27 @@ next_end s xs e = rw (e, next_shape) (ap (with_due s) (sym e))
 -- ---- the lengths
 
 -- any other line than a rule line leaves the lengths
-pub other_line : (s : Shape) (ls xs : List ℕ) → OneOf (0 ∷ 1 ∷ 2 ∷ 4 ∷ 5 ∷ 6 ∷ 7 ∷ 8 ∷ []) (tag_of the_type s.due) → lengths_with s ls xs ≡ ls
+pub other_line : (s : Shape) (ls xs : List ℕ) → (s.due ≡ Rule → ⊥) → lengths_with s ls xs ≡ ls
 unfolding lengths_with
-other_line s ls xs h = go s.due refl h
+other_line s ls xs h = go s.due refl
   where
-    go : (w : Due) → s.due ≡ w → OneOf (0 ∷ 1 ∷ 2 ∷ 4 ∷ 5 ∷ 6 ∷ 7 ∷ 8 ∷ []) (tag_of the_type w) → lengths_with s ls xs ≡ ls
-    go Terms p k = rw (p, lengths_with) refl
-    go Nonterms p k = rw (p, lengths_with) refl
-    go Rules p k = rw (p, lengths_with) refl
-    go Rule p k = absurd (miss (0 ∷ 1 ∷ 2 ∷ 4 ∷ 5 ∷ 6 ∷ 7 ∷ 8 ∷ []) 3 tt k)
-    go States p k = rw (p, lengths_with) refl
-    go State p k = rw (p, lengths_with) refl
-    go Item p k = rw (p, lengths_with) refl
-    go Go p k = rw (p, lengths_with) refl
-    go End p k = rw (p, lengths_with) refl
+    go : (w : Due) → s.due ≡ w → lengths_with s ls xs ≡ ls
+    go Terms p = rw (p, lengths_with) refl
+    go Nonterms p = rw (p, lengths_with) refl
+    go Rules p = rw (p, lengths_with) refl
+    go Rule p = absurd (h p)
+    go States p = rw (p, lengths_with) refl
+    go State p = rw (p, lengths_with) refl
+    go Item p = rw (p, lengths_with) refl
+    go Go p = rw (p, lengths_with) refl
+    go End p = rw (p, lengths_with) refl
 
 -- what a test told: it failed, or it passed
-pub told_false : {r b : Bool} → r ≡ b → not r ≡ true → b ≡ false
-told_false {r} e n = sym e ∙ not-true r n
+pub told_false : {r b : Bool} → r ≡ b → r ≡ false → b ≡ false
+told_false e n = sym e ∙ n
 
-pub told_true : {r b : Bool} → r ≡ b → not r ≡ false → b ≡ true
-told_true {r} e n = sym e ∙ not-false r n
+pub told_true : {r b : Bool} → r ≡ b → r ≡ true → b ≡ true
+told_true e n = sym e ∙ n
 
 -- a rule line that fits has a place in the lengths, and few numbers
 pub rule_known : (s : Shape) (ls xs : List ℕ) → s.due ≡ Rule → fits_shape s ls xs ≡ true → (s.rules < max_rules) × Within 2 (suc max_right) (length xs)

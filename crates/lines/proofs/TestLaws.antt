@@ -4,7 +4,7 @@ use native.Mathlib.Omega.{arith}
 use native.Mathlib.Decide.{dec_le}
 use native.Mathlib.Numerals.{add-one}
 use mathlib.Core.Path.{◌≡◌, refl, sym, ap, ◌∙◌}
-use mathlib.Core.Bool.{Bool, true, false, ◌&&◌, and-true, and_false}
+use mathlib.Core.Bool.{Bool, true, false, ◌&&◌, and-true, and-false}
 use mathlib.Core.List.{List, [], ◌∷◌}
 use lib.ListN.{length, get_or, take, drop, length-drop}
 use lib.Seq.{take_all, drop-cons, drop-length}
@@ -104,8 +104,8 @@ module _ (t least : ℕ) (s : List ℕ) (i : ℕ) where
   pub ahead-low : i < length s → get_or s i 0 < least → ahead_from t least (drop i s) ≡ false
   ahead-low h k =
       ap (λ (b : Bool). leb least (suc t) && b)
-      (ahead_more t least s i h ∙ rw (lt-leb least (get_or s i 0) k) (and_false (leb (get_or s i 0) t && all (is_ahead t) (drop (i + 1) s)))) ∙
-      and_false (leb least (suc t))
+      (ahead_more t least s i h ∙ rw (lt-leb least (get_or s i 0) k) (and-false (leb (get_or s i 0) t && all (is_ahead t) (drop (i + 1) s)))) ∙
+      and-false (leb least (suc t))
 
   -- it rises
   pub ahead_rises : i < length s → least ≤ get_or s i 0 → ahead_from t least (drop i s) ≡ ahead_from t (get_or s i 0 + 1) (drop (i + 1) s)
@@ -117,7 +117,7 @@ module _ (t least : ℕ) (s : List ℕ) (i : ℕ) where
           (ahead_more t least s i h ∙ rw (le-leb (get_or s i 0) t k, le-leb least (get_or s i 0) j) refl)
       by (no k) =
           rw (lt-leb (get_or s i 0 + 1) (suc t) (omega arith))
-          (ap (λ (b : Bool). leb least (suc t) && b) (ahead_more t least s i h ∙ rw (lt-leb (get_or s i 0) t (omega arith)) refl) ∙ and_false (leb least (suc t)))
+          (ap (λ (b : Bool). leb least (suc t) && b) (ahead_more t least s i h ∙ rw (lt-leb (get_or s i 0) t (omega arith)) refl) ∙ and-false (leb least (suc t)))
 
   -- none is left
   pub none_left : i ≡ length s → ahead_from t least (drop i s) ≡ leb least (suc t)
