@@ -1,0 +1,15 @@
+-- `entries::fill_rules` meets its contract: the loop keeps that the entries of the rules passed are written, and all else is 0.
+use Prim.Native.Nat.{◌-◌, ◌≤◌}
+use lib.ListN.{length}
+use borrow.Author.Rules.{rules}
+use Rattle.theory.specs.Table.{rule_at}
+use Rattle.lines.specs.Limits.{max_rules}
+use Rattle.table.specs.Places.{grammar_in}
+use Rattle.table.specs.LookUps.{Row}
+use Rattle.table.proofs.entries.fill_rules.Given as goal
+
+abbrev pub invariant-loop-r : goal.invariant-loop-r
+invariant-loop-r l = (l.r ≤ l.sizes.rules) × Row l.r max_rules (λ l.r. length (rule_at (grammar_in l.table) l.r).right) l.lens × Row l.r max_rules (λ l.r. (rule_at (grammar_in l.table) l.r).left) l.lefts
+
+abbrev pub decreases-loop-r : goal.decreases-loop-r
+decreases-loop-r l = l.sizes.rules - l.r

@@ -1,0 +1,36 @@
+use Prim.Native.Nat.{◌+◌, ◌<◌}
+use native.Mathlib.Omega.{arith}
+use mathlib.Core.Logic.{⊎_elim}
+use mathlib.Core.Path.{◌≡◌, sym, subst}
+use borrow.Author.Rules.{rules}
+use Rattle.table.specs.Places.{grammar_in}
+use Rattle.table.specs.Firsts.{FirstGrown}
+use Rattle.table.proofs.FirstSets.{first-none, first_more, first_less}
+use Rattle.table.proofs.firsts.first_round.Goals as goal
+
+pub loop-r-init : goal.loop-r-init
+loop-r-init c = (omega arith, first-none (grammar_in c.args.table.now) c.args.rows.now c.requires.2)
+
+pub first_by-requires : goal.first_by-requires
+first_by-requires c = (c.requires.0, c.loop-r-test.true, c.requires.1, c.loop-r.invariant.1.part)
+
+pub loop-r-preserved : goal.loop-r-preserved
+loop-r-preserved c = let g = grammar_in c.args.table.now in
+    let rows = c.args.rows.now in
+    let j = c.loop-r.r in
+    let l = c.loop-r-test.true in
+    let new = c.first_by.new.rows in (
+      omega arith,
+      ⊎_elim
+          (λ w. subst (FirstGrown g (λ q. q < j + 1) rows new) (sym w.1)
+          (first_more g rows c.loop-r.invariant.1 (subst (FirstGrown g (λ q. q ≡ j) c.loop-r.rows new) w.0.taken c.first_by.ensures)))
+          (λ w. subst (FirstGrown g (λ q. q < j + 1) rows new) (sym w.1)
+          (first_less g rows c.loop-r.invariant.1 (subst (FirstGrown g (λ q. q ≡ j) c.loop-r.rows new) w.0.left c.first_by.ensures)))
+          c.if-first_by.branch,
+    )
+
+pub returns : goal.returns
+returns c = let g = grammar_in c.args.table.now in
+    let l = c.loop-r-test.false in
+    let e : c.loop-r.r ≡ c.args.sizes.rules = omega arith in
+    subst (λ k. FirstGrown g (λ q. q < k) c.args.rows.now c.loop-r.rows c.loop-r.grew) e c.loop-r.invariant.1

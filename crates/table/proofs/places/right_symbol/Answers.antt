@@ -1,0 +1,20 @@
+-- `places::right_symbol` meets its contract: the number j places after the left side.
+use native.Mathlib.Omega.{arith}
+use mathlib.Core.Path.{◌∙◌}
+use Rattle.table.specs.Places.Step.{held_rule, held_rules}
+use Rattle.table.proofs.places.right_symbol.Goals as goal
+
+pub rule_place-p-requires : goal.rule_place-p-requires
+rule_place-p-requires c = let h = held_rules c.requires.0 in let l = c.requires.1 in omega arith
+
+pub overflow_add-p : goal.overflow_add-p
+overflow_add-p c = let h = held_rule c.requires.0 c.args.r c.requires.1 c.rule_place-p.result c.rule_place-p.ensures in let i = h.inside in omega arith
+
+pub overflow_add-p-2 : goal.overflow_add-p-2
+overflow_add-p-2 c = let h = held_rule c.requires.0 c.args.r c.requires.1 c.rule_place-p.result c.rule_place-p.ensures in let i = h.inside in let j = c.requires.2 in omega arith
+
+pub number-requires : goal.number-requires
+number-requires c = let h = held_rule c.requires.0 c.args.r c.requires.1 c.rule_place-p.result c.rule_place-p.ensures in let i = h.inside in let j = c.requires.2 in omega arith
+
+pub returns : goal.returns
+returns c = let h = held_rule c.requires.0 c.args.r c.requires.1 c.rule_place-p.result c.rule_place-p.ensures in c.number.ensures ∙ h.right_at c.args.j c.requires.2
