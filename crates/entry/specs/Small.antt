@@ -2,8 +2,8 @@
 use Rattle.std.specs.Prelude.{ℕ, ◌+◌, ◌*◌, ◌≤◌, ◌<◌, refl, List, length}
 use Rattle.std.proofs.Common.{arith, mul-le-mul, ap, ◌∙◌, length-append}
 use Rattle.theory.specs.Table.{Table, count}
-use Rattle.theory.specs.Sound.{judged_stop}
-use Rattle.theory.specs.Demands.{demand_3}
+use Rattle.theory.proofs.Sound.{judged_stop}
+use Rattle.theory.proofs.Demands.{demand_3}
 use Rattle.lines.specs.Limits.{max_tail}
 use Rattle.lines.specs.Lines.{Draft, flat, start}
 use Rattle.lines.specs.Lines.Numbers.{flat-long}

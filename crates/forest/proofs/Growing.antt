@@ -8,8 +8,9 @@ use lib.ListN.{length}
 use Rattle.theory.specs.Table.{Table}
 use Rattle.theory.specs.Forest as Of
 use Rattle.theory.specs.Forest.{Forest, nothing, tree, grow, short, over, Rising, bare, rises}
-use Rattle.theory.specs.Forest.Sizes.{inner, size-split, parts}
-use Rattle.theory.specs.Forest.Growth.{grow-inner, grow-rising}
+use Rattle.theory.specs.Forest.Sizes.{inner}
+use Rattle.theory.proofs.Forest.Sizes.{size-split, parts}
+use Rattle.theory.proofs.Forest.Growth.{grow-inner, grow-rising}
 use Rattle.forest.specs.Words.{at, poke, Inside, poke-len, at_same, at_other}
 use Rattle.forest.specs.Trees.{Tree, nil, node, erase, weigh, one, each, occ, size, Rep, live}
 use Rattle.forest.specs.Pools.{Pool, pooled, add, dropped}

@@ -11,7 +11,7 @@ use native.Mathlib.Omega.{arith}
 use borrow.Author.Tests.{eqb-true}
 use lib.Dec.{eqb}
 use lib.ListN.{length, get_or}
-use Rattle.theory.specs.Basics.{place, mem_split}
+use Rattle.theory.proofs.Basics.{place, mem_split}
 use Rattle.theory.specs.Table.{Table, State, Go, Fits, no_state, count, go_in, goto, has, rule_at}
 use Rattle.theory.specs.Forest.{Forest, nothing, tree, join, grow, short, long_in, long_of, long, Phase, Chosen, reduced}
 use Rattle.forest.specs.Longs.{leaf, leaves}

@@ -16,8 +16,9 @@ use lib.Seq.{get_or-take, get_or-drop, length-take-le}
 use Rattle.lines.specs.Limits.{max_terms, max_nonterms, max_states}
 use Rattle.lines.specs.Ranges.{InRange}
 use Rattle.theory.specs.Table.{Table, Item, InState, count, goto, reduce_on}
-use Rattle.theory.specs.Table.Facts.{Facts, item_state}
-use Rattle.theory.specs.Table.Actions.{reduce_on-item}
+use Rattle.theory.specs.Table.Facts.{Facts}
+use Rattle.theory.proofs.Table.Facts.{item_state}
+use Rattle.theory.proofs.Table.Actions.{reduce_on-item}
 use Rattle.forest.specs.Rows.{meant, Row, Acts, GoRows, ActRows}
 
 -- the part of the rows from k · m to k · m + m

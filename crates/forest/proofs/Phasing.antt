@@ -12,15 +12,17 @@ use lib.ListN.{length, get_or, replicate, length-replicate, get_or-replicate}
 use Rattle.lines.specs.Limits.{max_nonterms, max_states, max_tail}
 use Rattle.lines.specs.Ranges.{InRange}
 use Rattle.theory.specs.Table.{Table, Passes, count, has}
-use Rattle.theory.specs.Table.Facts.{facts}
+use Rattle.theory.proofs.Table.Facts.{facts}
 use Rattle.theory.specs.Forest as Of
 use Rattle.theory.specs.Forest.{Forest, nothing, tree, Phase, Chosen, choose, reduced, bare, rises, over}
-use Rattle.theory.specs.Forest.Sizes.{inner, width, lift, size-split}
-use Rattle.theory.specs.Forest.Taken.{choose-taken, taken_sum, taken_rising}
+use Rattle.theory.specs.Forest.Sizes.{inner, width, lift}
+use Rattle.theory.proofs.Forest.Sizes.{size-split}
+use Rattle.theory.proofs.Forest.Taken.{choose-taken, taken_sum, taken_rising}
 use Rattle.theory.specs.Bound.{fresh_phase}
-use Rattle.theory.specs.Bound.Heights.{Height, height}
-use Rattle.theory.specs.Bound.Potential.{Inv, cost-split, pending-le}
-use Rattle.theory.specs.Bound.Steps.{weight, each, potential, step_falls}
+use Rattle.theory.specs.Bound.Heights.{Height}
+use Rattle.theory.proofs.Bound.Heights.{height}
+use Rattle.theory.proofs.Bound.Potential.{Inv, cost-split, pending-le}
+use Rattle.theory.proofs.Bound.Steps.{weight, each, potential, step_falls}
 use Rattle.forest.specs.Words.{at, Inside, max_words}
 use Rattle.forest.specs.Picks.{SomeLinked, Picks}
 use Rattle.forest.specs.Held.{Held, Becomes}

@@ -7,7 +7,7 @@ use native.Mathlib.Omega.{arith}
 use lib.ListN.{length, get_or}
 use Rattle.theory.specs.Table.{Table, reduce_on}
 use Rattle.theory.specs.Forest.{Forest, nothing, tree, choose, chosen}
-use Rattle.theory.specs.Forest.Sizes.{parts}
+use Rattle.theory.proofs.Forest.Sizes.{parts}
 use Rattle.forest.specs.Words.{stride, at, poke, Inside, poke-len, at_same, at_other}
 use Rattle.forest.specs.Trees.{Tree, nil, node, erase, weigh, one, occ, Rep, live}
 use Rattle.forest.specs.Picks.{Linked, SomeLinked, Choice, Picked, Picks}

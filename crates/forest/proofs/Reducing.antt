@@ -8,9 +8,10 @@ use lib.ListN.{length}
 use Rattle.theory.specs.Table.{Table}
 use Rattle.theory.specs.Forest as Of
 use Rattle.theory.specs.Forest.{Forest, nothing, join, grow, short, Rising}
-use Rattle.theory.specs.Forest.Sizes.{width, size-split}
-use Rattle.theory.specs.Forest.Counts.{width-rising}
-use Rattle.theory.specs.Forest.Growth.{grow-inner, grow-rising}
+use Rattle.theory.specs.Forest.Sizes.{width}
+use Rattle.theory.proofs.Forest.Sizes.{size-split}
+use Rattle.theory.proofs.Forest.Counts.{width-rising}
+use Rattle.theory.proofs.Forest.Growth.{grow-inner, grow-rising}
 use Rattle.forest.specs.Words.{at}
 use Rattle.forest.specs.Trees.{erase, one, each, occ, size}
 use Rattle.forest.specs.Pools.{pooled}

@@ -7,7 +7,7 @@ use native.Mathlib.Omega.{arith}
 use lib.ListN.{length, get_or}
 use Rattle.theory.specs.Forest as Of
 use Rattle.theory.specs.Forest.{Forest, nothing, tree, join}
-use Rattle.theory.specs.Forest.Sizes.{sum-join, inner-join, size-split}
+use Rattle.theory.proofs.Forest.Sizes.{sum-join, inner-join, size-split}
 use Rattle.forest.specs.Words.{at, Inside}
 use Rattle.forest.specs.Trees.{nil, node, erase, one, each, occ, size, Rep}
 use Rattle.forest.specs.Pools.{Pool, pooled}

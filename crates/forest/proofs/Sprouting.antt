@@ -8,7 +8,7 @@ use borrow.Author.Tests.{eq-eqb, ne_eqb}
 use lib.ListN.{length, get_or}
 use Rattle.theory.specs.Table.{Table, goto}
 use Rattle.theory.specs.Forest.{Forest, nothing, tree, join, weave, grow}
-use Rattle.theory.specs.Forest.Counts.{width-rising}
+use Rattle.theory.proofs.Forest.Counts.{width-rising}
 use Rattle.forest.specs.Words.{stride, at, poke, Inside, poke-len, at_same, at_other}
 use Rattle.forest.specs.Trees.{Tree, nil, node, erase, weigh, one, each, occ, Rep}
 use Rattle.forest.specs.Pools.{Pool, run, pooled, Pooled, add, pushed}

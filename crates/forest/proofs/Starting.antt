@@ -7,7 +7,7 @@ use lib.Dec.{eqb}
 use lib.ListN.{length}
 use Rattle.lines.specs.Limits.{max_terms, max_nonterms, max_states}
 use Rattle.theory.specs.Table.{Table, count}
-use Rattle.theory.specs.Table.Facts.{facts}
+use Rattle.theory.proofs.Table.Facts.{facts}
 use Rattle.theory.specs.Forest as Of
 use Rattle.theory.specs.Forest.{Forest, nothing, join, long}
 use Rattle.forest.specs.Words.{at}

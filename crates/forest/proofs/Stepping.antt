@@ -12,10 +12,10 @@ use lib.Dec.{eqb}
 use lib.ListN.{length, get_or, set, length-set}
 use lib.Seq.{get_or-set_same, get_or-set_other}
 use Rattle.lines.specs.Limits.{max_terms, max_nonterms, max_states}
-use Rattle.theory.specs.Basics.{get_d_cases}
+use Rattle.theory.proofs.Basics.{get_d_cases}
 use Rattle.theory.specs.Grammar.{Rule, Nonterm}
 use Rattle.theory.specs.Table.{Table, count, rule_at, accept_rule, has}
-use Rattle.theory.specs.Table.Facts.{facts}
+use Rattle.theory.proofs.Table.Facts.{facts}
 use Rattle.theory.specs.Forest as Of
 use Rattle.theory.specs.Forest.{Forest, nothing, tree, Phase, Chosen, short, reduced}
 use Rattle.forest.specs.Rows.{Row}

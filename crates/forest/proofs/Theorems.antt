@@ -6,7 +6,7 @@ use Prim.Native.Nat.{ℕ, ◌+◌, ◌≤◌, ◌<◌}
 use native.Mathlib.Omega.{arith}
 use Rattle.theory.specs.Table.{Table}
 use Rattle.theory.specs.Forest.{Forest, nothing, tree, Phase, shift}
-use Rattle.theory.specs.Forest.Agree.{reduces_agree}
+use Rattle.theory.proofs.Forest.Agree.{reduces_agree}
 use Rattle.theory.specs.Forest.Joins.{is_none}
 use Rattle.forest.specs.Trees.{one, occ}
 use Rattle.forest.specs.Pools.{pooled}

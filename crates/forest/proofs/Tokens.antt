@@ -8,11 +8,11 @@ use lib.Dec.{eqb}
 use lib.ListN.{length}
 use Rattle.lines.specs.Limits.{max_terms, max_nonterms, max_states}
 use Rattle.theory.specs.Table.{Table, count}
-use Rattle.theory.specs.Table.Facts.{facts}
+use Rattle.theory.proofs.Table.Facts.{facts}
 use Rattle.theory.specs.Forest as Of
 use Rattle.theory.specs.Forest.{Forest, nothing, tree, shift}
 use Rattle.theory.specs.Forest.Joins.{is_none}
-use Rattle.theory.specs.Bound.{size-le}
+use Rattle.theory.proofs.Bound.{size-le}
 use Rattle.forest.specs.Words.{at}
 use Rattle.forest.specs.Held.{CanShift, SomeShift, Shifts}
 use Rattle.forest.specs.Phases.{CanPhase, SomePhase, Phased, Phases}

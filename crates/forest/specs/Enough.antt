@@ -5,14 +5,16 @@ use Rattle.std.proofs.Common.{subst, arith, mul-le-mul, mul-le-mul_left}
 use Rattle.lines.specs.Limits.{stride, max_states, max_tail}
 use Rattle.theory.specs.Grammar.{Tokens, token}
 use Rattle.theory.specs.Table.{Table, Passes, count}
-use Rattle.theory.specs.Table.Facts.{facts}
+use Rattle.theory.proofs.Table.Facts.{facts}
 use Rattle.theory.specs.Forest.{Forest, tree, Phase, long, shift, Reduces, done, step, Takes, all, on, stop, Judged, none_shifts, runs}
 use Rattle.theory.specs.Forest.Sizes.{inner}
-use Rattle.theory.specs.Forest.Growth.{long-inner}
-use Rattle.theory.specs.Bound.{fresh_phase, long-inv, shift-inv, shift-inner}
-use Rattle.theory.specs.Bound.Heights.{Height, height}
-use Rattle.theory.specs.Bound.Potential.{Inv}
-use Rattle.theory.specs.Bound.Steps.{step_falls}
+use Rattle.theory.proofs.Forest.Growth.{long-inner}
+use Rattle.theory.specs.Bound.{fresh_phase}
+use Rattle.theory.proofs.Bound.{long-inv, shift-inv, shift-inner}
+use Rattle.theory.specs.Bound.Heights.{Height}
+use Rattle.theory.proofs.Bound.Heights.{height}
+use Rattle.theory.proofs.Bound.Potential.{Inv}
+use Rattle.theory.proofs.Bound.Steps.{step_falls}
 use Rattle.forest.specs.Words.{max_words}
 use Rattle.forest.specs.Phases.{Enough}
 

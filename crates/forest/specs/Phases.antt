@@ -6,7 +6,7 @@ use Rattle.theory.specs.Forest as Of
 use Rattle.theory.specs.Forest.{Forest, nothing, tree, Phase, Chosen, reduced, Rising}
 use Rattle.theory.specs.Forest.Sizes.{inner}
 use Rattle.theory.specs.Bound.{fresh_phase}
-use Rattle.theory.specs.Bound.Potential.{Inv}
+use Rattle.theory.proofs.Bound.Potential.{Inv}
 use Rattle.forest.specs.Rows.{Acts, Passing, GoRows, RuleRows}
 use Rattle.forest.specs.Held.{Held, Split, Becomes}
 

@@ -5,7 +5,7 @@ use Rattle.theory.specs.Forest as Of
 use Rattle.theory.specs.Forest.{Forest, Phase, shift}
 use Rattle.theory.specs.Forest.Joins.{is_none}
 use Rattle.theory.specs.Bound.{fresh_phase}
-use Rattle.theory.specs.Bound.Potential.{Inv}
+use Rattle.theory.proofs.Bound.Potential.{Inv}
 use Rattle.forest.specs.Rows.{Passing, Rows}
 use Rattle.forest.specs.Held.{Held, Becomes}
 use Rattle.forest.specs.Phases.{most_steps, Enough}

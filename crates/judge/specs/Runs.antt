@@ -4,7 +4,7 @@ use Rattle.theory.specs.Grammar.{Tokens}
 use Rattle.theory.specs.Table.{Table}
 use Rattle.theory.specs.Forest.{Forest, Takes, Judged}
 use Rattle.theory.specs.Bound.{fresh_phase}
-use Rattle.theory.specs.Bound.Potential.{Inv}
+use Rattle.theory.proofs.Bound.Potential.{Inv}
 use Rattle.lines.specs.Limits.{max_tail}
 use Rattle.forest.specs.Rows.{Passing, Rows}
 use Rattle.forest.specs.Held.{Held}

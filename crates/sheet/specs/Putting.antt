@@ -5,7 +5,7 @@ use Rattle.std.proofs.Math.Path.{refl, sym, ap}
 use Rattle.std.proofs.Math.ListN.{drop}
 use Rattle.std.proofs.Math.Seq.{paste, paste-zero, paste-suc}
 use Rattle.std.proofs.lemmas.List.Edits.{length-paste}
-use Rattle.theory.specs.Basics.{drop-mem, drop-get_d, drop-next, drop-bound}
+use Rattle.theory.proofs.Basics.{drop-mem, drop-get_d, drop-next, drop-bound}
 use Rattle.lines.specs.Basics.{All, never}
 use Rattle.sheet.specs.Sheet.{newline, digit0}
 use Rattle.sheet.specs.Text.{max_word, Value, bad, has, value_of, prefixed, rest_from}

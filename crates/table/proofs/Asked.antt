@@ -9,12 +9,13 @@ use mathlib.Core.List.Memᴰ
 use mathlib.Core.List.{Memᴰ as Mem}
 use mathlib.Core.Logic.{◌⊎◌, inl, inr, ⊎_elim}
 use lib.ListN.{length, get_or, take, drop, length-drop}
-use Rattle.theory.specs.Basics.{cut_at, get_d_cases, drop-next, drop-mem}
+use Rattle.theory.proofs.Basics.{cut_at, get_d_cases, drop-next, drop-mem}
 use Rattle.theory.specs.Grammar.{Rule, Grammar, WellFormed, Reduced, Begins, Yields, end, kind, by, start}
-use Rattle.theory.specs.Grammar.Closure.{begins_kind}
-use Rattle.theory.specs.Grammar.Derive.{derives_yields}
-use Rattle.theory.specs.Grammar.First.{yields_token, begins_first}
-use Rattle.theory.specs.Grammar.Fruitful.{Fruitful, fruitful_split, rule_fruitful}
+use Rattle.theory.proofs.Grammar.Closure.{begins_kind}
+use Rattle.theory.proofs.Grammar.Derive.{derives_yields}
+use Rattle.theory.proofs.Grammar.First.{yields_token, begins_first}
+use Rattle.theory.specs.Grammar.Fruitful.{Fruitful}
+use Rattle.theory.proofs.Grammar.Fruitful.{fruitful_split, rule_fruitful}
 use Rattle.theory.specs.Table.{Item, rest, rule_at, accept_rule}
 use Rattle.lines.specs.Limits.{max_nonterms}
 use Rattle.table.specs.declared.Sizes.{Sizes}

@@ -4,7 +4,7 @@ use native.Mathlib.Omega.{arith}
 use mathlib.Core.Path.{◌≡◌, sym}
 use mathlib.Core.Logic.{⊎_elim}
 use mathlib.Core.List.{Memᴰ as Mem}
-use Rattle.theory.specs.Basics.{mem_order}
+use Rattle.theory.proofs.Basics.{mem_order}
 use Rattle.theory.specs.Table.{Table, Item, Go, state_at, InState, Fits, Condition2}
 
 module _ (t : Table) (s : ℕ) where

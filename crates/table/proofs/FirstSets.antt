@@ -17,7 +17,7 @@ use lib.Seq.{get_or-set_same, get_or-set_other}
 use borrow.Author.Count.{below_more, below_none}
 use borrow.Author.Tests.{eqb-true, eq-eqb, le-leb, lt-leb}
 use Rattle.theory.specs.Grammar.{Rule, Grammar, Begins, WellFormed, Reduced}
-use Rattle.theory.specs.Grammar.Closure.{begins_kind, begins_step, begins_closed}
+use Rattle.theory.proofs.Grammar.Closure.{begins_kind, begins_step, begins_closed}
 use Rattle.theory.specs.Table.{rule_at, accept_rule}
 use Rattle.lines.specs.Limits.{max_nonterms}
 use Rattle.table.specs.Members.{all_mem}

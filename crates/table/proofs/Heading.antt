@@ -7,7 +7,7 @@ use mathlib.Core.List.{List, [], ◌∷◌}
 use lib.ListN.{length}
 use types.Run.{OneOf, miss}
 use denote.Enum.Declared.{tag_of}
-use Rattle.theory.specs.Basics.{both}
+use Rattle.theory.proofs.Basics.{both}
 use Rattle.lines.specs.Basics.{impossible}
 use Rattle.lines.specs.Limits.{max_numbers, max_states}
 use Rattle.lines.specs.Lines.{is_end, less}

@@ -11,7 +11,7 @@ use lib.Seq.{drop-drop, length-take-le, get_or-set_same, get_or-set_other}
 use lib.Dec.{leb}
 use borrow.Author.Count.{below_more}
 use borrow.Author.Tests.{leb-true}
-use Rattle.theory.specs.Basics.{both}
+use Rattle.theory.proofs.Basics.{both}
 use Rattle.lines.specs.Lines.Fits.{at, ahead_fits, fits_item}
 use Rattle.table.specs.Items.{item_in}
 use Rattle.table.specs.Sets.{SetOf}

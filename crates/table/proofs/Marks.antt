@@ -8,7 +8,7 @@ use mathlib.Core.List.{List}
 use mathlib.Core.List.{Memᴰ as Mem}
 use lib.ListN.{length, get_or, set, replicate, length-set, length-replicate}
 use lib.Seq.{get_or-set_same, get_or-set_other}
-use Rattle.theory.specs.Basics.{place}
+use Rattle.theory.proofs.Basics.{place}
 use Rattle.theory.specs.Table.{Table}
 use Rattle.table.specs.Condition5.{MarkedAt, MarksTo, MarksTell, MetIn, Met}
 use Rattle.table.specs.Members.{mem_at}

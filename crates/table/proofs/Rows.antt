@@ -9,7 +9,7 @@ use mathlib.Core.List.{Memᴰ as Mem}
 use lib.Bits.{bit_or}
 use lib.ListN.{length, get_or, set, replicate, length-set, get_or-replicate}
 use lib.Seq.{get_or-set_same, get_or-set_other}
-use Rattle.theory.specs.Basics.{place}
+use Rattle.theory.proofs.Basics.{place}
 use Rattle.theory.specs.Table.{Item}
 use Rattle.table.specs.Members.{mem_at}
 use Rattle.table.specs.Sets.{SetOf}

@@ -4,7 +4,7 @@ use Rattle.std.proofs.Common.{arith, subst}
 use mathlib.Core.List.Memᴰ.{head as Mem·head}
 use mathlib.Core.List.Memᴰ.{tail as Mem·tail}
 use mathlib.Core.List.{Memᴰ as Mem}
-use Rattle.theory.specs.Basics.{place}
+use Rattle.theory.proofs.Basics.{place}
 
 -- what stands at a place is a member
 pub mem_at : {A : Type 0} (l : List A) (j : ℕ) (d : A) → j < length l → Mem (get_or l j d) l

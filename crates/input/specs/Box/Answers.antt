@@ -4,7 +4,7 @@ use Rattle.std.proofs.Common.{arith, subst}
 use Rattle.std.proofs.lemmas.Bool.{false≢true}
 use mathlib.Core.List.{Memᴰ as Mem}
 use Rattle.theory.specs.Table.{has}
-use Rattle.theory.specs.Table.Actions.{has-mem, mem_has}
+use Rattle.theory.proofs.Table.Actions.{has-mem, mem_has}
 use Rattle.lines.specs.Basics.{impossible}
 use Rattle.table.specs.Check.{numbers}
 use Rattle.table.specs.declared.Check.{Check}

@@ -6,13 +6,14 @@ use Rattle.std.proofs.Math.Option.{some}
 use mathlib.Core.List.{List, [], ◌∷◌, nil≢cons}
 use Rattle.std.proofs.Math.ListN.{get_or-eq_default}
 use Rattle.theory.specs.Grammar.{Rule, Grammar, Tokens, token, start}
-use Rattle.theory.specs.Grammar.First.{yields_token, begins_first}
-use Rattle.theory.specs.Grammar.Fruitful.{start-fruitful}
+use Rattle.theory.proofs.Grammar.First.{yields_token, begins_first}
+use Rattle.theory.proofs.Grammar.Fruitful.{start-fruitful}
 use Rattle.theory.specs.Table.{Table, Item, Passes, InState, count, goto, rest, accept_rule}
-use Rattle.theory.specs.Table.Facts.{Facts, facts}
-use Rattle.theory.specs.Table.Access.{acc, acc-goto}
-use Rattle.theory.specs.Machine.Valid.{goto-item}
-use Rattle.theory.specs.Machine.Complete.{piece_feeds}
+use Rattle.theory.specs.Table.Facts.{Facts}
+use Rattle.theory.proofs.Table.Facts.{facts}
+use Rattle.theory.proofs.Table.Access.{acc, acc-goto}
+use Rattle.theory.proofs.Machine.Valid.{goto-item}
+use Rattle.theory.proofs.Machine.Complete.{piece_feeds}
 use Rattle.judge.specs.Judge.{words}
 use Rattle.judge.specs.declared.Judgement.{Judgement}
 use Rattle.input.specs.Box.{Box, small_box}

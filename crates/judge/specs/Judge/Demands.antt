@@ -5,8 +5,9 @@ use Rattle.theory.specs.Grammar.{Tokens, empty}
 use Rattle.theory.specs.Table.{Table, Passes, count}
 use Rattle.theory.specs.Forest.{Judged, Rising, size}
 use Rattle.theory.specs.Forest.Between.{JudgedAll}
-use Rattle.theory.specs.Sound.{judged_all}
-use Rattle.theory.specs.Demands.{judgement, Told, demand_2, demand_3, demand_3_nodes}
+use Rattle.theory.proofs.Sound.{judged_all}
+use Rattle.theory.specs.Demands.{Told}
+use Rattle.theory.proofs.Demands.{judgement, demand_2, demand_3, demand_3_nodes}
 use Rattle.lines.specs.Basics.{impossible}
 use Rattle.table.specs.Check.{numbers}
 use Rattle.table.specs.declared.Check.{Check}

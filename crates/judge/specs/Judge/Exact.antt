@@ -10,10 +10,10 @@ use borrow.Author.Tests.{leb-true, leb-false, le-leb, lt-leb, ltb-true, ltb-fals
 use Rattle.theory.specs.Grammar.{Grammar, Tokens, empty, token}
 use Rattle.theory.specs.Table.{Table, Passes, count}
 use Rattle.theory.specs.Forest.{Judged}
-use Rattle.theory.specs.Sound.{judged_all}
-use Rattle.theory.specs.Demands.{agree}
+use Rattle.theory.proofs.Sound.{judged_all}
+use Rattle.theory.proofs.Demands.{agree}
 use Rattle.theory.specs.Run.{says, judge}
-use Rattle.theory.specs.Run.Right.{judge-right}
+use Rattle.theory.proofs.Run.Right.{judge-right}
 use Rattle.lines.specs.Basics.{never, impossible}
 use Rattle.lines.specs.Limits.{max_tail}
 use Rattle.lines.specs.Lines.{Lined, read_numbers, table_of}

@@ -2,7 +2,7 @@
 use Rattle.std.specs.Prelude.{ℕ, zero, suc, ◌+◌, ◌≤◌, ◌≡◌, refl, true, ◌&&◌, List, [], ◌∷◌, ◌++◌, length, get_or, drop, ltb}
 use Rattle.std.proofs.Common.{arith, sym, subst, ⊎_elim, length-append}
 use Rattle.std.proofs.lemmas.Bool.{false≢true}
-use Rattle.theory.specs.Basics.{both, get_d_cases}
+use Rattle.theory.proofs.Basics.{both, get_d_cases}
 use Rattle.theory.specs.Grammar.{Rule}
 use Rattle.theory.specs.Table.{Item, Go, State, rule_at}
 use Rattle.lines.specs.Basics.{All, all_nil, all_cons, all_head, all_tail, all_append, never, impossible}

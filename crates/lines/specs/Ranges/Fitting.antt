@@ -5,7 +5,7 @@ use mathlib.Core.List.Memᴰ
 use mathlib.Core.List.Memᴰ.{head as Mem·head}
 use mathlib.Core.List.Memᴰ.{tail as Mem·tail}
 use mathlib.Core.List.{Memᴰ as Mem}
-use Rattle.theory.specs.Basics.{get_d_cases}
+use Rattle.theory.proofs.Basics.{get_d_cases}
 use Rattle.theory.specs.Grammar.{Rule, Grammar, WellFormed}
 use Rattle.theory.specs.Table.{Item, Go, State, Table, Fits, InState, count, state_at, no_state}
 use Rattle.lines.specs.Limits.{max_numbers}

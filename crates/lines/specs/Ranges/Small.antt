@@ -3,7 +3,7 @@ use Rattle.std.specs.Prelude.{ℕ, ◌≤◌, refl, List, [], ◌∷◌, ◌++�
 use Rattle.std.proofs.Common.{arith, sym, subst, ⊎_elim}
 use mathlib.Core.List.Memᴰ.{head as Mem·head}
 use mathlib.Core.List.Memᴰ.{tail as Mem·tail}
-use Rattle.theory.specs.Basics.{get_d_cases}
+use Rattle.theory.proofs.Basics.{get_d_cases}
 use Rattle.theory.specs.Grammar.{Rule}
 use Rattle.theory.specs.Table.{Item, Go, State, Table, rule_at, accept_rule, count}
 use Rattle.lines.specs.Basics.{All, all_nil, all_cons, all_append, all_map}

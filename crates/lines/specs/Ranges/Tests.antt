@@ -7,7 +7,7 @@ use mathlib.Core.List.Memᴰ
 use mathlib.Core.List.Memᴰ.{head as Mem·head}
 use mathlib.Core.List.Memᴰ.{tail as Mem·tail}
 use Rattle.std.proofs.Math.ListN.{get_or-map}
-use Rattle.theory.specs.Basics.{both}
+use Rattle.theory.proofs.Basics.{both}
 use Rattle.theory.specs.Grammar.{Rule, Grammar}
 use Rattle.theory.specs.Table.{Item, Go, rule_at, accept_rule}
 use Rattle.lines.specs.Limits.{max_right, max_items, max_gos}

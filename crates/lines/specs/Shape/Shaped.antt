@@ -5,7 +5,7 @@ use Rattle.std.proofs.Common.{arith, sym, ap, ◌∙◌, subst, length-set, leng
 use Rattle.std.proofs.Math.Bool.{and-true}
 use Rattle.std.proofs.Math.Option.{none, some}
 use Rattle.std.proofs.Math.Dec.{leb-zero}
-use Rattle.theory.specs.Basics.{both}
+use Rattle.theory.proofs.Basics.{both}
 use Rattle.theory.specs.Grammar.{Rule as GrammarRule}
 use Rattle.theory.specs.Table.{Item as TableItem, Go as TableGo}
 use Rattle.lines.specs.Limits.{max_rules}

@@ -5,7 +5,7 @@ use Rattle.std.proofs.Math.Option.{Option, none, some}
 use mathlib.Core.List.Memᴰ.{head as Mem·head}
 use mathlib.Core.List.Memᴰ.{tail as Mem·tail}
 use Rattle.std.proofs.lemmas.Bool.{eqb-false}
-use Rattle.theory.specs.Basics.{both}
+use Rattle.theory.proofs.Basics.{both}
 use Rattle.lines.specs.Lines.{Due, key, is_end, Cut}
 use Rattle.lines.specs.Lines.Fits.{all}
 use Rattle.lines.specs.Ranges.Tests.{two, within-says}

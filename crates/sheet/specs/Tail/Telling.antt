@@ -8,7 +8,7 @@ use mathlib.Core.List.{List, [], ◌∷◌, ◌++◌}
 use Rattle.std.proofs.Math.ListN.{length}
 use Rattle.std.proofs.Math.Seq.{take-length}
 use Rattle.std.proofs.Math.Dec.{leb}
-use Rattle.theory.specs.Basics.{drop-some}
+use Rattle.theory.proofs.Basics.{drop-some}
 use Rattle.lines.specs.Basics.{never}
 use Rattle.lines.specs.Lines.Fits.{all}
 use Rattle.sheet.specs.Sheet.{newline, space, after, in_front}

@@ -3,7 +3,7 @@ use Rattle.std.specs.Prelude.{ℕ, zero, suc, ◌+◌, ◌*◌, ◌-◌, ◌≤�
 use Rattle.std.proofs.Common.{arith, sym, ap, ◌∙◌, length-drop, eqb-true, eq-eqb, ne_eqb, le-leb, leb-true, leb-false}
 use Rattle.std.proofs.Math.Option.{Option, none, some}
 use Rattle.std.proofs.lemmas.Bool.{eqb-false, lt-leb}
-use Rattle.theory.specs.Basics.{both}
+use Rattle.theory.proofs.Basics.{both}
 use Rattle.lines.specs.Basics.{never, impossible}
 use Rattle.lines.specs.Lines.Fits.{all}
 use Rattle.lines.specs.Ranges.Tests.{within-says}

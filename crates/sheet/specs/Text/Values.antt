@@ -6,7 +6,7 @@ use Rattle.std.proofs.Math.Option.{Option, none, some}
 use mathlib.Core.List.{List, [], ◌∷◌, ◌++◌, append-nil}
 use Rattle.std.proofs.Math.ListN.{drop}
 use Rattle.std.proofs.lemmas.Bool.{eqb-false}
-use Rattle.theory.specs.Basics.{both}
+use Rattle.theory.proofs.Basics.{both}
 use Rattle.lines.specs.Lines.{Cut}
 use Rattle.lines.specs.Lines.Fits.{all, within}
 use Rattle.lines.specs.Basics.{never}

@@ -2,8 +2,9 @@
 use Rattle.std.specs.Prelude.{refl, [], ◌∷◌}
 use Rattle.std.proofs.Common.{arith}
 use Rattle.theory.specs.Grammar.{empty, token, Piece}
-use Rattle.theory.specs.Example.Box.{box, marked}
-use Rattle.theory.specs.Demands.{demand_2}
+use Rattle.theory.specs.Example.Box.{box}
+use Rattle.theory.proofs.Example.Box.{marked}
+use Rattle.theory.proofs.Demands.{demand_2}
 use Rattle.table.specs.Example.{box-passes}
 
 -- seven of the eight are pieces

@@ -5,7 +5,7 @@ use Rattle.std.proofs.Math.Decide.{dec_lt}
 use mathlib.Core.List.Memᴰ
 use mathlib.Core.List.{Memᴰ as Mem}
 use Rattle.std.proofs.Math.ListN.{get_or-eq_default}
-use Rattle.theory.specs.Basics.{get_d_cases, drop-next, drop-get_d, drop-mem, drop-bound, drop-done}
+use Rattle.theory.proofs.Basics.{get_d_cases, drop-next, drop-get_d, drop-mem, drop-bound, drop-done}
 use Rattle.theory.specs.Grammar.{Grammar, WellFormed, start}
 use Rattle.theory.specs.Table.{Item, rule_at, accept_rule, rest, After, Complete}
 use Rattle.table.specs.Members.{mem_at}

@@ -8,9 +8,9 @@ use mathlib.Core.List.Memᴰ
 use mathlib.Core.List.Memᴰ.{head as Mem·head}
 use mathlib.Core.List.Memᴰ.{tail as Mem·tail}
 use mathlib.Core.List.{Memᴰ as Mem}
-use Rattle.theory.specs.Basics.{is_true_true, eqb-eq, eqb_same}
+use Rattle.theory.proofs.Basics.{is_true_true, eqb-eq, eqb_same}
 use Rattle.theory.specs.Table.{has, is_empty, Subset}
-use Rattle.theory.specs.Table.Actions.{has-mem, mem_has}
+use Rattle.theory.proofs.Table.Actions.{has-mem, mem_has}
 use Rattle.table.specs.Tests.{all, any, places, subset, first_is, only_is}
 
 -- the test passes exactly if the statement holds

@@ -2,7 +2,7 @@ use native.Mathlib.Omega.{arith}
 use mathlib.Core.Path.{◌∙◌, ap}
 use lib.ListN.{get_or}
 use borrow.Author.Count.{below_none, below_more}
-use Rattle.theory.specs.Basics.{place}
+use Rattle.theory.proofs.Basics.{place}
 use Rattle.theory.specs.Table.{Item, state_at}
 use Rattle.table.specs.Tests.Tell.{tells_yes, tells_no}
 use Rattle.table.specs.Items.Held.{walk_here, walk_first, walk_on}

@@ -6,7 +6,7 @@ use mathlib.Core.Path.{◌≡◌, ◌∙◌, sym, ap, subst}
 use lib.ListN.{get_or}
 use lib.Dec.{lit<}
 use Rattle.theory.specs.Table.{Item, state_at, InState}
-use Rattle.theory.specs.Basics.{place}
+use Rattle.theory.proofs.Basics.{place}
 use Rattle.table.specs.Items.Held.{item_here, state_in}
 use Rattle.table.specs.Items.{Agrees}
 use Rattle.table.specs.Places.{table_in, no_item}

@@ -4,8 +4,9 @@ use Rattle.std.specs.Prelude.{ℕ, zero, suc, ◌+◌, ◌<◌, ◌≡◌, refl,
 use Rattle.std.proofs.Common.{arith, sym, ap, ap₂, ◌∙◌, subst, inl, inr, lt-ltb, le-ltb, ne_eqb, eq-eqb}
 use Rattle.std.proofs.Math.Decide.{dec_lt}
 use Rattle.theory.specs.Forest.{Forest, nothing, tree, size, join, weave, meet, From, root}
-use Rattle.theory.specs.Forest.Joins.{join-ind, is_none}
-use Rattle.theory.specs.Forest.Sizes.{from_join}
+use Rattle.theory.specs.Forest.Joins.{is_none}
+use Rattle.theory.proofs.Forest.Joins.{join-ind}
+use Rattle.theory.proofs.Forest.Sizes.{from_join}
 
 -- ---- one step of a join, by how the two first roots stand
 

@@ -2,7 +2,7 @@
 use Rattle.std.specs.Prelude.{ℕ, ◌≡◌, refl, Bool, true, false, List}
 use Rattle.std.proofs.Common.{sym, ◌∙◌}
 use Rattle.theory.specs.Grammar.{Grammar}
-use Rattle.theory.specs.Grammar.Fronts.{stops_once, stops_no_piece}
+use Rattle.theory.proofs.Grammar.Fronts.{stops_once, stops_no_piece}
 use Rattle.theory.specs.Demands.{Told}
 
 pub told_once : {g : Grammar} {x : List ℕ} {v v' : Bool} {i i' : ℕ} → Told g x v i → Told g x v' i' → (v ≡ v') × (i ≡ i')

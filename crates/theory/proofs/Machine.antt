@@ -1,0 +1,3 @@
+-- The theorems on the ordinary machine of a table.
+pub mod Valid
+pub mod Complete

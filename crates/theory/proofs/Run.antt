@@ -1,0 +1,2 @@
+-- The theorems on the judgement as a program.
+pub mod Right
