@@ -6,11 +6,8 @@ use lib.Seq.{take-length, paste, paste-suc}
 use native.Mathlib.Numerals.{add-one}
 use native.Mathlib.Omega.{arith}
 use Rattle.sheet.specs.Sheet.{in_front}
+use Rattle.sheet.proofs.copy.copy.Invariants.{copied}
 use Rattle.sheet.proofs.copy.copy.Goals as goal
-
--- the first numbers in front of the rest of a slice
-abbrev copied : List ℕ → List ℕ → ℕ → List ℕ
-copied d s i = take i s ++ drop i d
 
 -- one number more
 copied_more : (d s : List ℕ) (i : ℕ) → i < length s → length s ≤ length d → set (copied d s i) i (get_or s i 0) ≡ copied d s (i + 1)

@@ -2,19 +2,15 @@
 use Rattle.sheet.specs.declared.scan.Scanned.{Scanned}
 use Rattle.lines.specs.declared.shape.Due.TheVariants.{Terms, Nonterms, Rules, Rule, States, State, Item, Go, End}
 use Rattle.lines.specs.declared.shape.Due.{Due}
-use Rattle.lines.specs.contracts.shape.Due.{the_type}
-use types.Run.{OneOf, miss}
 use Prim.Native.Nat.{ℕ}
-use mathlib.Core.List.{[], ◌∷◌}
 use mathlib.Core.Path.{◌≡◌, refl, sym, subst}
 use Rattle.lines.specs.Shape.Shaped.{due_of}
 use Rattle.lines.specs.Lines.{is_end}
 use Rattle.sheet.specs.Scan.{end_of}
-use denote.Enum.Declared.{tag_of}
 use Rattle.sheet.proofs.scan.at_end.Goals as goal
 
 -- where a line is due it is missing
-some-due : (d : Due) (line count : ℕ) → OneOf (0 ∷ 1 ∷ 2 ∷ 3 ∷ 4 ∷ 5 ∷ 6 ∷ 7 ∷ []) (tag_of the_type d) → Scanned.Bad line ≡ end_of (due_of d) line count
+some-due : (d : Due) (line count : ℕ) → (d ≡ Due.End → ⊥) → Scanned.Bad line ≡ end_of (due_of d) line count
 unfolding end_of is_end
 some-due Terms line count h = refl
 some-due Nonterms line count h = refl
@@ -24,11 +20,11 @@ some-due States line count h = refl
 some-due State line count h = refl
 some-due Item line count h = refl
 some-due Go line count h = refl
-some-due End line count h = absurd (miss (0 ∷ 1 ∷ 2 ∷ 3 ∷ 4 ∷ 5 ∷ 6 ∷ 7 ∷ []) 8 tt h)
+some-due End line count h = absurd (h refl)
 
 pub returns-in-End : goal.returns-in-End
 unfolding end_of is_end
 returns-in-End c = subst (λ d. Scanned.Good c.args.count ≡ end_of (due_of d) c.args.line c.args.count) (sym c.in-End.is) refl
 
 pub returns-in_default : goal.returns-in_default
-returns-in_default c = some-due c.args.due c.args.line c.args.count c.in_default.keys2
+returns-in_default c = some-due c.args.due c.args.line c.args.count c.in_default.not-End

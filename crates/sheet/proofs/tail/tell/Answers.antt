@@ -18,14 +18,8 @@ returns-then-s-at-eq-LF c = c.ended.ensures [] tally_none ∙ ap (λ (v : Value)
 pub loop-i-init : goal.loop-i-init
 loop-i-init c = telling_start c.args.s.now c.args.at c.if-s-at.false c.if-s-at-eq-LF.false
 
-pub enum_told-1 : goal.enum_told-1
-enum_told-1 c = c.in-Bad.keys1
-
 pub returns-in-Bad : goal.returns-in-Bad
 returns-in-Bad c = tell_bad (value_of (drop c.args.at c.args.s.now)) (reading_bad c.args.s.now c.args.at c.loop-i.i c.loop-i.invariant.reading (sym c.in-Bad.is ∙ c.number-got.ensures))
-
-pub enum_known-got : goal.enum_known-got
-enum_known-got c = c.in-Value.keys2
 
 pub returns-then-s-e : goal.returns-then-s-e
 returns-then-s-e c = tell_bad (value_of (drop c.args.at c.args.s.now)) (reading_end c.args.s.now c.args.at c.loop-i.i c.loop-i.invariant.reading c.in-Value.v c.in-Value.e (sym c.in-Value.is ∙ c.number-got.ensures) c.if-s-e.true)

@@ -22,17 +22,11 @@ loop-i-init c = keeping_start c.args.s.now c.args.at c.args.kept.now c.args.w c.
 pub number-got-requires : goal.number-got-requires
 number-got-requires c = c.loop-i.invariant.reading.inside
 
-pub enum_told-1 : goal.enum_told-1
-enum_told-1 c = c.in-Bad.keys1
-
 pub shape_of-kept-in-Bad : goal.shape_of-kept-in-Bad
 shape_of-kept-in-Bad c = c.loop-i.invariant.long
 
 pub returns-in-Bad : goal.returns-in-Bad
 returns-in-Bad c = reading_bad c.args.s.now c.args.at c.loop-i.i c.loop-i.invariant.reading (sym c.in-Bad.is ∙ c.number-got.ensures)
-
-pub enum_known-got : goal.enum_known-got
-enum_known-got c = c.in-Value.keys2
 
 pub shape_of-kept-then-s-e : goal.shape_of-kept-then-s-e
 shape_of-kept-then-s-e c = c.loop-i.invariant.long

@@ -6,7 +6,6 @@ use Rattle.sheet.specs.Text.{Opened}
 use Rattle.lines.specs.Shape.Shaped.{due_of}
 use Rattle.lines.specs.Lines.{Due, key, is_end}
 use mathlib.Core.Path.{refl, sym, subst}
-use borrow.Author.Rules.{rules}
 use Rattle.sheet.proofs.text.open_due.Goals as goal
 
 pub returns-in-Terms : goal.returns-in-Terms
