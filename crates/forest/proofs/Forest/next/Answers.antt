@@ -42,11 +42,11 @@ pub shift-requires : goal.shift-requires
 shift-requires c =
     let p = c.phase-steps in
     let a = c.args in
-    take_shift a.room.now a.acts.now a.go.now a.lens.now a.lefts.now a.states a.token c.requires p.new.0 p.result p.ensures
+    take_shift a.room.now a.acts.now a.go.now a.lens.now a.lefts.now a.states a.token c.requires p.new.room p.result p.ensures
 
 pub returns : goal.returns
 returns c =
     let p = c.phase-steps in
     let h = c.shift in
     let a = c.args in
-    taken a.room.now a.acts.now a.go.now a.lens.now a.lefts.now a.states a.token p.new.0 h.new.0 p.result c.get-x.result p.ensures h.ensures c.get-x.ensures.0
+    taken a.room.now a.acts.now a.go.now a.lens.now a.lefts.now a.states a.token p.new.room h.new.room p.result c.get-x.result p.ensures h.ensures c.get-x.ensures.0

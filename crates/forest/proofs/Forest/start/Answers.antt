@@ -23,12 +23,12 @@ pub extend-requires : goal.extend-requires
 extend-requires c =
     let the_empty = c.empty in
     start_extend c.args.room.now c.args.go.now c.requires.C c.args.states c.requires.t c.args.token c.requires.can
-    the_empty.new.0 the_empty.ensures.0
+    the_empty.new.room the_empty.ensures.0
 
 pub returns : goal.returns
 returns c =
     let the_empty = c.empty in
     let the-extend = c.extend in
-    started c.args.room.now c.args.go.now c.args.states c.args.token the_empty.new.0
-    the-extend.new.0 c.get-x.result the_empty.ensures.0
+    started c.args.room.now c.args.go.now c.args.states c.args.token the_empty.new.room
+    the-extend.new.room c.get-x.result the_empty.ensures.0
     the-extend.ensures c.get-x.ensures.0

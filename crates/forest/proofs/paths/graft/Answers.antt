@@ -17,4 +17,4 @@ pub returns : goal.returns
 returns c =
     let paths = c.args.paths.now in
     let the-plant = c.plant in
-    extend_merges c.args.room.now paths the-plant.new.0 c.settle.new.room (planted paths) (length paths) the-plant.ensures c.settle.ensures
+    extend_merges c.args.room.now paths the-plant.new.room c.settle.new.room (planted paths) (length paths) the-plant.ensures c.settle.ensures

@@ -11,4 +11,4 @@ join-requires c =
 pub returns : goal.returns
 returns c =
     let the-join = c.join in
-    subst (λ (z : ℕ). Joins c.args.room.now 0 2 c.args.x z the-join.new.0) c.get-y.ensures.0 the-join.ensures
+    subst (λ (z : ℕ). Joins c.args.room.now 0 2 c.args.x z the-join.new.room) c.get-y.ensures.0 the-join.ensures

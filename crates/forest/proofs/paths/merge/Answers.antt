@@ -6,14 +6,14 @@ pub graft-requires : goal.graft-requires
 graft-requires c =
     let a = c.args in
     let v = c.empty in
-    first-graft a.room.now a.first.now a.second.now a.out.now c.requires v.new.0 v.ensures.0
+    first-graft a.room.now a.first.now a.second.now a.out.now c.requires v.new.room v.ensures.0
 
 pub graft-requires-2 : goal.graft-requires-2
 graft-requires-2 c =
     let a = c.args in
     let v = c.empty in
     let u = c.graft in
-    second-graft a.room.now a.first.now a.second.now a.out.now c.requires v.new.0 u.new.0 v.ensures.0 u.ensures
+    second-graft a.room.now a.first.now a.second.now a.out.now c.requires v.new.room u.new.room v.ensures.0 u.ensures
 
 pub print-requires : goal.print-requires
 print-requires c =
@@ -22,8 +22,8 @@ print-requires c =
     let u = c.graft in
     let z = c.graft-2 in
     let x = c.get-x in
-    both_print a.room.now a.first.now a.second.now a.out.now c.requires v.new.0 u.new.0 v.ensures.0 u.ensures
-    z.new.0 z.ensures x.result x.ensures.0
+    both_print a.room.now a.first.now a.second.now a.out.now c.requires v.new.room u.new.room v.ensures.0 u.ensures
+    z.new.room z.ensures x.result x.ensures.0
 
 pub returns : goal.returns
 returns c =
@@ -33,5 +33,5 @@ returns c =
     let z = c.graft-2 in
     let x = c.get-x in
     let p = c.print in
-    both_shown a.room.now a.first.now a.second.now a.out.now c.requires v.new.0 u.new.0 v.ensures.0 u.ensures
-    z.new.0 z.ensures x.result x.ensures.0 p.new.1.1.0 p.result p.ensures
+    both_shown a.room.now a.first.now a.second.now a.out.now c.requires v.new.room u.new.room v.ensures.0 u.ensures
+    z.new.room z.ensures x.result x.ensures.0 p.new.out p.result p.ensures

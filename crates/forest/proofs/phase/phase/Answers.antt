@@ -20,14 +20,14 @@ shape_of-room-then-x-eq0 c =
     let l = c.loop-n in
     let a = c.args in
     let x = c.choose-x in
-    x.auto.0 ∙ l.invariant.1
+    x.auto.room ∙ l.invariant.1
 
 pub returns-then-x-eq0 : goal.returns-then-x-eq0
 returns-then-x-eq0 c =
     let l = c.loop-n in
     let a = c.args in
     let x = c.choose-x in
-    turn_ends a.room.now a.acts.now a.go.now a.lens.now a.lefts.now a.states l.room l.marks l.n l.invariant.0 x.new.0
+    turn_ends a.room.now a.acts.now a.go.now a.lens.now a.lefts.now a.states l.room l.marks l.n l.invariant.0 x.new.room
     x.result c.if-x-eq0.true x.ensures
 
 pub get-s-requires : goal.get-s-requires
@@ -36,7 +36,7 @@ get-s-requires c =
     let x = c.choose-x in
     let a = c.args in
     let some = c.if-x-eq0.false in
-    let (i, m) = turn_get a.room.now a.acts.now a.go.now a.lens.now a.lefts.now a.states l.room l.marks l.n l.invariant.0 x.new.0 x.result x.ensures some c.requires in
+    let (i, m) = turn_get a.room.now a.acts.now a.go.now a.lens.now a.lefts.now a.states l.room l.marks l.n l.invariant.0 x.new.room x.result x.ensures some c.requires in
     (omega arith, i, m)
 
 pub bounds-acts-s : goal.bounds-acts-s
@@ -46,7 +46,7 @@ bounds-acts-s c =
     let a = c.args in
     let some = c.if-x-eq0.false in
     let g = c.get-s in
-    turn_low a.room.now a.acts.now a.go.now a.lens.now a.lefts.now a.states l.room l.marks l.n l.invariant.0 x.new.0 x.result x.ensures some c.requires g.result g.ensures.0
+    turn_low a.room.now a.acts.now a.go.now a.lens.now a.lefts.now a.states l.room l.marks l.n l.invariant.0 x.new.room x.result x.ensures some c.requires g.result g.ensures.0
 
 pub overflow_sub-rule : goal.overflow_sub-rule
 overflow_sub-rule c =
@@ -57,7 +57,7 @@ overflow_sub-rule c =
     let some = the-if.false in
     let g = c.get-s in
     let e = c.entry-rule in
-    omega (arith, turn_act a.room.now a.acts.now a.go.now a.lens.now a.lefts.now a.states l.room l.marks l.n l.invariant.0 x.new.0 x.result x.ensures some c.requires g.result g.ensures.0, e.ensures.0)
+    omega (arith, turn_act a.room.now a.acts.now a.go.now a.lens.now a.lefts.now a.states l.room l.marks l.n l.invariant.0 x.new.room x.result x.ensures some c.requires g.result g.ensures.0, e.ensures.0)
 
 pub step-requires : goal.step-requires
 step-requires c =
@@ -68,7 +68,7 @@ step-requires c =
     let a = c.args in
     let some = the-if.false in
     let e = c.entry-rule in
-    turn_step a.room.now a.acts.now a.go.now a.lens.now a.lefts.now a.states l.room l.marks l.n l.invariant.0 x.new.0 x.result x.ensures some c.requires g.result (e.result - 1) g.ensures.0
+    turn_step a.room.now a.acts.now a.go.now a.lens.now a.lefts.now a.states l.room l.marks l.n l.invariant.0 x.new.room x.result x.ensures some c.requires g.result (e.result - 1) g.ensures.0
     (ap (λ (i : ℕ). i - 1) e.ensures.0)
 
 pub loop-n-preserved : goal.loop-n-preserved
@@ -81,9 +81,9 @@ loop-n-preserved c =
     let a = c.args in
     let some = the-if.false in
     let y = c.step in (
-      turn_again a.room.now a.acts.now a.go.now a.lens.now a.lefts.now a.states l.room l.marks l.n l.invariant.0 x.new.0 x.result x.ensures some g.result (e.result - 1) g.ensures.0
-          (ap (λ (i : ℕ). i - 1) e.ensures.0) y.new.0 y.new.1.1.1.1.0 y.ensures,
-      y.auto.0 ∙ x.auto.0 ∙ l.invariant.1,
+      turn_again a.room.now a.acts.now a.go.now a.lens.now a.lefts.now a.states l.room l.marks l.n l.invariant.0 x.new.room x.result x.ensures some g.result (e.result - 1) g.ensures.0
+          (ap (λ (i : ℕ). i - 1) e.ensures.0) y.new.room y.new.marks y.ensures,
+      y.auto.room ∙ x.auto.room ∙ l.invariant.1,
     )
 
 pub shape_of-room : goal.shape_of-room

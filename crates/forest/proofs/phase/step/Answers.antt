@@ -77,7 +77,7 @@ returns-then-reduce c =
     let red = c.reduce in
     step_steps a.room.now a.go.now a.lens.now a.lefts.now a.marks.now a.states a.x a.rule
     left.result len.result left.ensures.0 len.ensures.0
-    red.new.0 (set a.marks.now left.result 1) red.result red.ensures (simp c.if-reduce.true)
+    red.new.room (set a.marks.now left.result 1) red.result red.ensures (simp c.if-reduce.true)
 
 pub returns-else-reduce : goal.returns-else-reduce
 returns-else-reduce c =
@@ -87,4 +87,4 @@ returns-else-reduce c =
     let red = c.reduce in
     step_steps a.room.now a.go.now a.lens.now a.lefts.now a.marks.now a.states a.x a.rule
     left.result len.result left.ensures.0 len.ensures.0
-    red.new.0 a.marks.now red.result red.ensures (simp c.if-reduce.false)
+    red.new.room a.marks.now red.result red.ensures (simp c.if-reduce.false)

@@ -18,5 +18,5 @@ pub returns : goal.returns
 returns c =
     let row = c.args.row.now in
     let the-spread = c.spread in
-    extend_merges c.args.room.now row the-spread.new.0 c.settle.new.room
+    extend_merges c.args.room.now row the-spread.new.room c.settle.new.room
     (leaves (meant row) 0 (length row)) (length row) the-spread.ensures c.settle.ensures

@@ -17,9 +17,9 @@ returns-then-add c =
     let s = c.args in
     let w = s.room.now in
     let row = s.row.now in
-    let v = the-grow.new.0 in
+    let v = the-grow.new.room in
     let the-extend = c.extend in
-    reduces_added w row s.depth s.p v true (subst (λ (b : Bool). GrowsTold w row s.depth s.p v b) c.if-grow.true the-grow.ensures) s.add c.if-add.true refl the-extend.new.0 the-extend.ensures
+    reduces_added w row s.depth s.p v true (subst (λ (b : Bool). GrowsTold w row s.depth s.p v b) c.if-grow.true the-grow.ensures) s.add c.if-add.true refl the-extend.new.room the-extend.ensures
 
 pub returns-then-grow : goal.returns-then-grow
 returns-then-grow c =
@@ -27,7 +27,7 @@ returns-then-grow c =
     let s = c.args in
     let w = s.room.now in
     let row = s.row.now in
-    let v = the-grow.new.0 in
+    let v = the-grow.new.room in
     reduces_short w row s.depth s.p v true (subst (λ (b : Bool). GrowsTold w row s.depth s.p v b) c.if-grow.true the-grow.ensures) s.add c.if-add.false refl
 
 pub returns : goal.returns
@@ -36,5 +36,5 @@ returns c =
     let s = c.args in
     let w = s.room.now in
     let row = s.row.now in
-    let v = the-grow.new.0 in
+    let v = the-grow.new.room in
     reduces_long w row s.depth s.p v false (subst (λ (b : Bool). GrowsTold w row s.depth s.p v b) c.if-grow.false the-grow.ensures) s.add refl

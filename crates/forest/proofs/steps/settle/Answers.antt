@@ -17,7 +17,7 @@ returns c =
     let the-get2 = c.get-y in
     let the-join = c.join in
     let v = c.args.room.now in
-    let u = the-join.new.0 in (
+    let u = the-join.new.room in (
       u,
       subst (λ (z : ℕ). Joins v 0 1 (at v 0 1) z u) the-get2.ensures.0
           (subst (λ (z : ℕ). Joins v 0 1 z the-get2.result u) the-get.ensures.0 the-join.ensures),

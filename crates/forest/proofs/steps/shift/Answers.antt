@@ -22,5 +22,5 @@ returns c =
     let the-grow = c.grow in
     let row = c.args.row.now in
     let w = c.args.room.now in
-    let v = the-grow.new.0 in
-    shift_shifts w row v (subst (λ (l : List ℕ). Grows l row 0 (at w 0 1) v) the-put.ensures (subst (λ (z : ℕ). Grows the-put.new.0 row 0 z v) the-get.ensures.0 (untold the-grow.ensures)))
+    let v = the-grow.new.room in
+    shift_shifts w row v (subst (λ (l : List ℕ). Grows l row 0 (at w 0 1) v) the-put.ensures (subst (λ (z : ℕ). Grows the-put.new.room row 0 z v) the-get.ensures.0 (untold the-grow.ensures)))

@@ -68,7 +68,7 @@ push-requires-2 c =
     let w = c.args.room.now in
     let e = the-get.ensures.0 in
     let O = subst⁻¹ (λ (z : ℕ). Opened w z) e (opened S (λ z. the-if.false (e ∙ z))) in
-    let k = the-put2.auto.0 in
+    let k = the-put2.auto.room in
     let k2 = c.push.auto.room in
     (omega (arith, k, k2, O.next, the-get5.ensures.0), omega (arith, k, k2, S.has.words))
 

@@ -99,7 +99,7 @@ shape_of-room-then-r-ne0 c =
     let d = g.d in
     let j = g.j in
     let acts = c.args.acts.now in
-    c.put-then-r-ne0.auto.room ∙ the-put.auto.0 ∙ ap length G.same
+    c.put-then-r-ne0.auto.room ∙ the-put.auto.room ∙ ap length G.same
 
 pub returns-then-r-ne0 : goal.returns-then-r-ne0
 returns-then-r-ne0 c =

@@ -23,7 +23,7 @@ pub get-a-requires-in-loop-a : goal.get-a-requires-in-loop-a
 get-a-requires-in-loop-a c = let S = c.loop-a.invariant.some in (omega arith, first_in S, S.two.words)
 
 -- the root at hand is passed by
-turn : (c : goal.Else-s-get) →
+turn : (c : goal.After-get-a-in-loop-a) →
     let g = c.loop-a in
     let w = c.args.room.now in
     let p = c.args.p in
@@ -36,12 +36,12 @@ turn c =
 pub loop-a-smaller : goal.loop-a-smaller
 loop-a-smaller c =
     let w = c.args.room.now in
-    subst⁻¹ (λ (z : ℕ). live w z < live w c.loop-a.a) c.get-a-in-loop-a.ensures.0 (turn c.before).1
+    subst⁻¹ (λ (z : ℕ). live w z < live w c.loop-a.a) c.get-a-in-loop-a.ensures.0 (turn c).1
 
 pub loop-a-preserved : goal.loop-a-preserved
 loop-a-preserved c =
     let w = c.args.room.now in
-    subst⁻¹ (λ (z : ℕ). Passed w c.args.p c.loop-a.a 2 z) c.get-a-in-loop-a.ensures.0 (turn c.before).0
+    subst⁻¹ (λ (z : ℕ). Passed w c.args.p c.loop-a.a 2 z) c.get-a-in-loop-a.ensures.0 (turn c).0
 
 pub returns : goal.returns
 returns c = c.loop-a.invariant

@@ -50,7 +50,7 @@ lay-requires c =
     let i = g.i in
     let G = goes_down the-test.true g.invariant in
     let Q = G.some.has in
-    let k = goes_took G the-take.new.0 the-take.result the-take.ensures in
+    let k = goes_took G the-take.new.room the-take.result the-take.ensures in
     (k.0, omega (arith, k.1, G.len, Q.words), omega (arith, the-entry.ensures.1), omega arith)
 
 pub get-r-requires : goal.get-r-requires
@@ -64,7 +64,7 @@ get-r-requires c =
     let i = g.i in
     let G = goes_down the-test.true g.invariant in
     let Q = G.some.has in
-    let k = c.lay.auto.room ∙ the-take.auto.0 in
+    let k = c.lay.auto.room ∙ the-take.auto.room in
     (omega arith, omega (arith, k, G.len, zero_in Q.pool), omega (arith, k, G.len, Q.words))
 
 pub join-requires : goal.join-requires
@@ -80,8 +80,8 @@ join-requires c =
     let i = g.i in
     let G = goes_down the-test.true g.invariant in
     let Q = G.some.has in
-    subst⁻¹ (λ (z : ℕ). SomeTwo the-lay.new.0 0 2 the-take.result z) c.get-r.ensures.0
-    (subst⁻¹ (λ (l : List ℕ). SomeTwo l 0 2 the-take.result (at l 0 2)) the-lay.ensures (goes_two G the-take.new.0 the-take.result (the-entry.result - 1) the-take.ensures))
+    subst⁻¹ (λ (z : ℕ). SomeTwo the-lay.new.room 0 2 the-take.result z) c.get-r.ensures.0
+    (subst⁻¹ (λ (l : List ℕ). SomeTwo l 0 2 the-take.result (at l 0 2)) the-lay.ensures (goes_two G the-take.new.room the-take.result (the-entry.result - 1) the-take.ensures))
 
 pub loop-i-preserved-then-u-ne0 : goal.loop-i-preserved-then-u-ne0
 loop-i-preserved-then-u-ne0 c =
@@ -101,12 +101,12 @@ loop-i-preserved-then-u-ne0 c =
     let Q = G.some.has in
     let U = the-entry.ensures.0 in
     let p = the-take.result in
-    let v₁ = the-take.new.0 in
-    let x = the-join.new.0 in
+    let v₁ = the-take.new.room in
+    let x = the-join.new.room in
     grows_on G (λ z. the-if.true (U ∙ z)) v₁ p the-take.ensures x
     (subst (λ (l : List ℕ). Joins l 0 2 p (at l 0 2) x) (the-lay.ensures ∙ ap (λ (z : ℕ). rooted v₁ p (z - 1) 0) U)
-    (subst (λ (z : ℕ). Joins the-lay.new.0 0 2 p z x) the-get.ensures.0 the-join.ensures))
-    (the-join.auto.0 ∙ the-lay.auto.0 ∙ the-take.auto.0)
+    (subst (λ (z : ℕ). Joins the-lay.new.room 0 2 p z x) the-get.ensures.0 the-join.ensures))
+    (the-join.auto.room ∙ the-lay.auto.room ∙ the-take.auto.room)
 
 pub loop-i-preserved : goal.loop-i-preserved
 loop-i-preserved c =

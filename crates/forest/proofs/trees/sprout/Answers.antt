@@ -71,10 +71,10 @@ insert-requires c =
     let a = c.args.a in
     let K = the-take.ensures S.P (source_left w S.m a S.f S.to S.P S.holds) in (
       subst⁻¹ (λ (l : List ℕ). SomeTwo l 0 1 (at l 0 1) the-take.result) the-lay.ensures
-          (some_two S the-take.new.0 the-take.result (the-entry.result - 1) the-take.ensures),
+          (some_two S the-take.new.room the-take.result (the-entry.result - 1) the-take.ensures),
       K.live,
       subst⁻¹ (λ (l : List ℕ). at l the-take.result 0 ≡ the-entry.result - 1) the-lay.ensures
-          (state_of the-take.new.0 the-take.result (the-entry.result - 1) a K.inside),
+          (state_of the-take.new.room the-take.result (the-entry.result - 1) a K.inside),
     )
 
 pub returns : goal.returns
@@ -91,7 +91,7 @@ returns c =
     let nz : a ≡ 0 → ⊥ = λ z. omega (arith, c.requires.1) in
     let U = the-entry.ensures.0 ∙ ap (λ (i : ℕ). get_or row i 0) the-get.ensures.0 in
     let p = the-take.result in
-    let v = the-take.new.0 in
-    let u = the-insert.new.0 in
+    let v = the-take.new.room in
+    let u = the-insert.new.room in
     grown_grows w row a nz c.requires.2 (λ z. the-if.false (U ∙ z)) v p the-take.ensures u
     (subst (λ (l : List ℕ). Joins l 0 1 (at l 0 1) p u) (the-lay.ensures ∙ ap (λ (z : ℕ). rooted v p (z - 1) a) U) the-insert.ensures)
