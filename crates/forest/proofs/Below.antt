@@ -4,9 +4,9 @@ use mathlib.Core.List.{List}
 use Prim.Native.Nat.{ℕ, ◌+◌, ◌<◌, ◌≤◌}
 use native.Mathlib.Omega.{arith}
 use lib.ListN.{length}
-use Rattle.theory.specs.Forest.{nothing, tree, join, meet}
+use Rattle.theory.specs.Forest.{nothing, join, meet}
 use Rattle.forest.specs.Words.{stride, at, poke, Inside, poke-len, at_same, at_other}
-use Rattle.forest.specs.Trees.{Tree, nil, node, erase, weigh, one, occ, Rep, live}
+use Rattle.forest.specs.Trees.{Tree, nil, node, erase, weigh, one, occ, Rep}
 use Rattle.forest.specs.Pools.{Pool, pooled, Pooled, add, pushed, dropped}
 use Rattle.forest.specs.Joins.{Two, Joined, Joins, Pair, Met, Meets}
 use Rattle.forest.proofs.Frame.{one-self, frame, differ, still, pool_still}

@@ -7,7 +7,7 @@ use borrow.Author.Tests.{eq-eqb, ne_eqb, lt-ltb, le-ltb}
 use lib.ListN.{length}
 use Rattle.theory.specs.Forest.{Forest, tree, join, meet, weave}
 use Rattle.forest.specs.Words.{stride, at, poke, Inside, poke-len, at_same, at_other}
-use Rattle.forest.specs.Trees.{Tree, nil, node, erase, weigh, one, occ, Rep, live}
+use Rattle.forest.specs.Trees.{Tree, nil, node, erase, weigh, one, occ, Rep}
 use Rattle.forest.specs.Pools.{Pool, pooled}
 use Rattle.forest.specs.Joins.{Kept, Two, Joined, Joins, Pair, Met}
 use Rattle.forest.proofs.Frame.{one-self, frame, not_none, differ, still, pool_still, kept_rep}

@@ -9,7 +9,7 @@ use lib.Seq.{sets, length-sets}
 use Rattle.theory.specs.Forest as Of
 use Rattle.theory.specs.Forest.{Forest, nothing, tree}
 use Rattle.forest.specs.Words.{max_words, at, Inside}
-use Rattle.forest.specs.Trees.{Tree, nil, node, erase, size, Rep, live}
+use Rattle.forest.specs.Trees.{Tree, nil, node, erase, Rep, live}
 use Rattle.forest.specs.Prints.{printed, Lists, SomePrint, Prints}
 use Rattle.forest.proofs.Frame.{live-rep}
 

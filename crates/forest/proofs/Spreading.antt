@@ -9,7 +9,7 @@ use Rattle.theory.specs.Forest as Of
 use Rattle.theory.specs.Forest.{Forest, nothing, tree, join}
 use Rattle.theory.proofs.Forest.Sizes.{sum-join, inner-join, size-split}
 use Rattle.forest.specs.Words.{at, Inside}
-use Rattle.forest.specs.Trees.{nil, node, erase, one, each, occ, size, Rep}
+use Rattle.forest.specs.Trees.{nil, node, erase, one, each, occ, Rep}
 use Rattle.forest.specs.Pools.{Pool, pooled}
 use Rattle.forest.specs.Joins.{Two, SomeTwo, Joined, Joins}
 use Rattle.forest.specs.Takes.{Left, SomeLeft, Took, Takes}
