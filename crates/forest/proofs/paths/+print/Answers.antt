@@ -37,7 +37,8 @@ print-k-requires t c =
     let w = c.args.room.now in
     let nz = c.loop-a-test.true in
     let e = c.get-c.ensures.0 in (
-      subst⁻¹ (λ (z : ℕ). live w z < t) e (omega (arith, c.decreases, kids_fall w g.out g.a g.k nz g.invariant.some, g.invariant.fewer)),
+      subst⁻¹ (λ (z : ℕ). live w z < t) e
+          (omega (arith, c.decreases, kids_fall w g.out g.a g.k nz g.invariant.some, g.invariant.fewer)),
       subst⁻¹ (λ (z : ℕ). SomePrint w z (set g.out g.k (c.get.result + 1)) (g.k + 1)) e
           (subst⁻¹ (λ (z : ℕ). SomePrint w (at w g.a 1) (set g.out g.k (z + 1)) (g.k + 1)) c.get.ensures.0
           (kids_print w g.out g.a g.k nz g.invariant.some)),
@@ -52,7 +53,8 @@ pub loop-a-smaller : goal.loop-a-smaller
 loop-a-smaller t c =
     let g = c.loop-a in
     let w = c.args.room.now in
-    subst⁻¹ (λ (z : ℕ). live w z < live w g.a) c.get-a.ensures.0 (next_fall w g.out g.a g.k c.loop-a-test.true g.invariant.some)
+    subst⁻¹ (λ (z : ℕ). live w z < live w g.a) c.get-a.ensures.0
+    (next_fall w g.out g.a g.k c.loop-a-test.true g.invariant.some)
 
 pub loop-a-preserved : goal.loop-a-preserved
 loop-a-preserved t c =
@@ -62,8 +64,10 @@ loop-a-preserved t c =
     let the-print = c.print-k in
     subst⁻¹ (λ (z : ℕ). Told w c.args.x c.args.out.now c.args.n the-print.new.out z the-print.result) c.get-a.ensures.0
     (told_next g.invariant c.loop-a-test.true the-print.new.out the-print.result
-    (subst (λ (z : ℕ). Prints w (at w g.a 1) (set g.out g.k (z + 1)) (g.k + 1) the-print.new.out the-print.result) the-get.ensures.0
-    (subst (λ (z : ℕ). Prints w z (set g.out g.k (the-get.result + 1)) (g.k + 1) the-print.new.out the-print.result) c.get-c.ensures.0
+    (subst (λ (z : ℕ). Prints w (at w g.a 1) (set g.out g.k (z + 1))
+    (g.k + 1) the-print.new.out the-print.result) the-get.ensures.0
+    (subst (λ (z : ℕ). Prints w z (set g.out g.k (the-get.result + 1))
+    (g.k + 1) the-print.new.out the-print.result) c.get-c.ensures.0
     the-print.ensures))
     (the-print.auto.out ∙ length-set g.out g.k (the-get.result + 1)))
 

@@ -53,7 +53,8 @@ sprout-requires t c =
     let a = g.a in
     let nz = the-test.true in
     let e = c.put.ensures in (
-      subst⁻¹ (λ (l : List ℕ). SomeSource c.put.new.room l a) (take-length row) (subst⁻¹ (λ (l : List ℕ). SomeSource l row a) e (first_some w row a nz S)),
+      subst⁻¹ (λ (l : List ℕ). SomeSource c.put.new.room l a) (take-length row)
+          (subst⁻¹ (λ (l : List ℕ). SomeSource l row a) e (first_some w row a nz S)),
       omega (arith, nz),
       subst⁻¹ (λ (l : List ℕ). at l a 2 ≡ 0) e (at_same w a 2 0 (omega arith) (source_in w row a nz S)),
     )
@@ -99,7 +100,9 @@ grow-requires t c =
     let nz = the-test.true in
     let e = c.drop_one.ensures in (
       omega (arith, c.decreases, the-if.false),
-      subst⁻¹ (λ (l : List ℕ). SomeSource c.drop_one.new.room l the-get2.result) (take-length row) (subst⁻¹ (λ (l : List ℕ). SomeSource l row the-get2.result) e (subst⁻¹ (λ (z : ℕ). SomeSource (dropped w a) row z) the-get2.ensures.0 (kids_some w row a nz S))),
+      subst⁻¹ (λ (l : List ℕ). SomeSource c.drop_one.new.room l the-get2.result) (take-length row)
+          (subst⁻¹ (λ (l : List ℕ). SomeSource l row the-get2.result) e
+          (subst⁻¹ (λ (z : ℕ). SomeSource (dropped w a) row z) the-get2.ensures.0 (kids_some w row a nz S))),
     )
 
 pub loop-a-smaller-then-depth-eq0 : goal.loop-a-smaller-then-depth-eq0
@@ -118,7 +121,9 @@ loop-a-smaller-then-depth-eq0 t c =
     let nz = the-test.true in
     let e = the-put.ensures in
     let v = the-sprout.new.room in
-    let T = subst⁻¹ (λ (d : ℕ). Turned w row d a v (at w a 2) false) the-if.true (first_turn w row a nz S v (subst (λ (l : List ℕ). Grows l row 0 a v) e (subst (λ (l : List ℕ). Grows the-put.new.room l 0 a v) (take-length row) the-sprout.ensures))) in
+    let T = subst⁻¹ (λ (d : ℕ). Turned w row d a v (at w a 2) false) the-if.true
+    (first_turn w row a nz S v (subst (λ (l : List ℕ). Grows l row 0 a v) e
+    (subst (λ (l : List ℕ). Grows the-put.new.room l 0 a v) (take-length row) the-sprout.ensures))) in
     subst⁻¹ (λ (z : ℕ). live v z < live w a) the-get.ensures.0 T.falls
 
 pub loop-a-preserved-then-depth-eq0 : goal.loop-a-preserved-then-depth-eq0
@@ -137,7 +142,9 @@ loop-a-preserved-then-depth-eq0 t c =
     let nz = the-test.true in
     let e = the-put.ensures in
     let v = the-sprout.new.room in
-    let T = subst⁻¹ (λ (d : ℕ). Turned w row d a v (at w a 2) false) the-if.true (first_turn w row a nz S v (subst (λ (l : List ℕ). Grows l row 0 a v) e (subst (λ (l : List ℕ). Grows the-put.new.room l 0 a v) (take-length row) the-sprout.ensures))) in
+    let T = subst⁻¹ (λ (d : ℕ). Turned w row d a v (at w a 2) false) the-if.true
+    (first_turn w row a nz S v (subst (λ (l : List ℕ). Grows l row 0 a v) e
+    (subst (λ (l : List ℕ). Grows the-put.new.room l 0 a v) (take-length row) the-sprout.ensures))) in
     on G T the-get.ensures.0 (the-sprout.auto.room ∙ the-put.auto.room) (sym (or_false g.long))
 
 pub loop-a-smaller-then-c-eq0 : goal.loop-a-smaller-then-c-eq0
@@ -158,7 +165,8 @@ loop-a-smaller-then-c-eq0 t c =
     let dep = c.args.depth in
     let z = sym the-get2.ensures.0 ∙ c.if-c-eq0.true in
     let T = kids_turn_at w row a nz S v dep true false the-if.false (λ i. refl) (λ i. absurd (i z))
-    (subst⁻¹ (λ (l : List ℕ). GrowsTold (dropped w a) row (dep - 1) (at w a 1) l false) the-drop-one.ensures (end_told (dropped w a) row (dep - 1) (at w a 1) z)) in
+    (subst⁻¹ (λ (l : List ℕ). GrowsTold (dropped w a) row (dep - 1) (at w a 1) l false) the-drop-one.ensures
+    (end_told (dropped w a) row (dep - 1) (at w a 1) z)) in
     subst⁻¹ (λ (z : ℕ). live v z < live w a) the-get.ensures.0 T.falls
 
 pub loop-a-preserved-then-c-eq0 : goal.loop-a-preserved-then-c-eq0
@@ -179,7 +187,8 @@ loop-a-preserved-then-c-eq0 t c =
     let dep = c.args.depth in
     let z = sym the-get2.ensures.0 ∙ c.if-c-eq0.true in
     let T = kids_turn_at w row a nz S v dep true false the-if.false (λ i. refl) (λ i. absurd (i z))
-    (subst⁻¹ (λ (l : List ℕ). GrowsTold (dropped w a) row (dep - 1) (at w a 1) l false) the-drop-one.ensures (end_told (dropped w a) row (dep - 1) (at w a 1) z)) in
+    (subst⁻¹ (λ (l : List ℕ). GrowsTold (dropped w a) row (dep - 1) (at w a 1) l false) the-drop-one.ensures
+    (end_told (dropped w a) row (dep - 1) (at w a 1) z)) in
     on G T the-get.ensures.0 the-drop-one.auto.room (sym (or-true g.long))
 
 pub loop-a-smaller : goal.loop-a-smaller
@@ -201,10 +210,12 @@ loop-a-smaller t c =
     let v = the-grow.new.room in
     let r = the-grow.result in
     let dep = c.args.depth in
-    let T = kids_turn_at w row a nz S v dep r r the-if.false (λ i. absurd (the-if2.false (the-get2.ensures.0 ∙ i))) (λ i. refl)
+    let T = kids_turn_at w row a nz S v dep r r the-if.false (λ i. absurd (the-if2.false (the-get2.ensures.0 ∙ i)))
+    (λ i. refl)
     (subst (λ (l : List ℕ). GrowsTold l row (dep - 1) (at w a 1) v r) the-drop-one.ensures
     (subst (λ (z : ℕ). GrowsTold the-drop-one.new.room row (dep - 1) z v r) the-get2.ensures.0
-    (subst (λ (l : List ℕ). GrowsTold the-drop-one.new.room l (dep - 1) the-get2.result v r) (take-length row) the-grow.ensures))) in
+    (subst (λ (l : List ℕ). GrowsTold the-drop-one.new.room l (dep - 1) the-get2.result v r)
+    (take-length row) the-grow.ensures))) in
     subst⁻¹ (λ (z : ℕ). live v z < live w a) the-get.ensures.0 T.falls
 
 pub loop-a-preserved : goal.loop-a-preserved
@@ -226,10 +237,12 @@ loop-a-preserved t c =
     let v = the-grow.new.room in
     let r = the-grow.result in
     let dep = c.args.depth in
-    let T = kids_turn_at w row a nz S v dep r r the-if.false (λ i. absurd (the-if2.false (the-get2.ensures.0 ∙ i))) (λ i. refl)
+    let T = kids_turn_at w row a nz S v dep r r the-if.false (λ i. absurd (the-if2.false (the-get2.ensures.0 ∙ i)))
+    (λ i. refl)
     (subst (λ (l : List ℕ). GrowsTold l row (dep - 1) (at w a 1) v r) the-drop-one.ensures
     (subst (λ (z : ℕ). GrowsTold the-drop-one.new.room row (dep - 1) z v r) the-get2.ensures.0
-    (subst (λ (l : List ℕ). GrowsTold the-drop-one.new.room l (dep - 1) the-get2.result v r) (take-length row) the-grow.ensures))) in
+    (subst (λ (l : List ℕ). GrowsTold the-drop-one.new.room l (dep - 1) the-get2.result v r)
+    (take-length row) the-grow.ensures))) in
     on G T the-get.ensures.0 (the-grow.auto.room ∙ the-drop-one.auto.room) c.either-long.ensures
 
 pub returns : goal.returns

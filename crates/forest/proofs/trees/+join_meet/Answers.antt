@@ -15,7 +15,8 @@ pub join-loop-a-init : goal.join-loop-a-init
 join-loop-a-init t c = starts c.requires
 
 pub join-put-requires : goal.join-put-requires
-join-put-requires t c = let g = c.loop-a in let G = g.invariant in let S = G.some in (omega (arith, S.two.link), S.two.inside, S.two.words, omega (arith, first_in S, S.two.words))
+join-put-requires t c = let g = c.loop-a in let G = g.invariant in let S = G.some in
+    (omega (arith, S.two.link), S.two.inside, S.two.words, omega (arith, first_in S, S.two.words))
 
 pub join-returns-then-b-eq0 : goal.join-returns-then-b-eq0
 join-returns-then-b-eq0 t c =
@@ -23,10 +24,12 @@ join-returns-then-b-eq0 t c =
     let the-if = c.if-b-eq0 in
     let G = g.invariant in
     let S = G.some in
-    subst⁻¹ (λ (u : List ℕ). Joins c.args.room.now c.args.to c.args.word c.args.x c.args.y u) c.put.ensures (G.back _ (end_right g.room g.d g.j g.a g.b the-if.true))
+    subst⁻¹ (λ (u : List ℕ). Joins c.args.room.now c.args.to c.args.word c.args.x c.args.y u) c.put.ensures
+    (G.back _ (end_right g.room g.d g.j g.a g.b the-if.true))
 
 pub join-get-s-requires : goal.join-get-s-requires
-join-get-s-requires t c = let g = c.loop-a in let G = g.invariant in let S = G.some in (omega arith, first_in S, S.two.words)
+join-get-s-requires t c = let g = c.loop-a in let G = g.invariant in let S = G.some in
+    (omega arith, first_in S, S.two.words)
 
 pub join-get-t-requires : goal.join-get-t-requires
 join-get-t-requires t c =
@@ -94,7 +97,8 @@ join-meet-requires t c =
     let x0 = the-test.true in
     let y0 = the-if.false in
     let e = c.put-else-t-s.ensures in (
-      subst⁻¹ (λ (l : List ℕ). 2 * (live l (at l g.a 1) + live l (at l g.b 1)) + 1 < t) e (omega (arith, kids_fall g.room g.d g.j g.a g.b x0 y0 S, G.fewer, c.decreases)),
+      subst⁻¹ (λ (l : List ℕ). 2 * (live l (at l g.a 1) + live l (at l g.b 1)) + 1 < t) e
+          (omega (arith, kids_fall g.room g.d g.j g.a g.b x0 y0 S, G.fewer, c.decreases)),
       subst⁻¹ (λ (l : List ℕ). SomePair l g.a g.b) e (turn_pair g.room g.d g.j g.a g.b x0 y0 S),
     )
 
@@ -111,7 +115,8 @@ join-loop-a-smaller-then-s-t t c =
     let S = G.some in
     let x0 = the-test.true in
     let y0 = the-if.false in
-    let T = turn_less g.room g.d g.j g.a g.b x0 y0 S (omega (arith, the-get.ensures.0, the-get2.ensures.0, the-if2.true)) in
+    let T = turn_less g.room g.d g.j g.a g.b x0 y0 S
+    (omega (arith, the-get.ensures.0, the-get2.ensures.0, the-if2.true)) in
     less G T c.put-then-s-t.ensures the-get3.ensures.0 refl
 
 pub join-loop-a-preserved-then-s-t : goal.join-loop-a-preserved-then-s-t
@@ -128,7 +133,8 @@ join-loop-a-preserved-then-s-t t c =
     let S = G.some in
     let x0 = the-test.true in
     let y0 = the-if.false in
-    let T = turn_less g.room g.d g.j g.a g.b x0 y0 S (omega (arith, the-get.ensures.0, the-get2.ensures.0, the-if2.true)) in
+    let T = turn_less g.room g.d g.j g.a g.b x0 y0 S
+    (omega (arith, the-get.ensures.0, the-get2.ensures.0, the-if2.true)) in
     again G T the-put2.ensures the-get3.ensures.0 refl the-put2.auto.room
 
 pub join-loop-a-smaller-then-t-s : goal.join-loop-a-smaller-then-t-s
@@ -144,7 +150,8 @@ join-loop-a-smaller-then-t-s t c =
     let S = G.some in
     let x0 = the-test.true in
     let y0 = the-if.false in
-    let T = turn_more g.room g.d g.j g.a g.b x0 y0 S (omega (arith, the-get.ensures.0, the-get2.ensures.0, the-if3.true)) in
+    let T = turn_more g.room g.d g.j g.a g.b x0 y0 S
+    (omega (arith, the-get.ensures.0, the-get2.ensures.0, the-if3.true)) in
     less G T c.put-then-t-s.ensures refl the-get4.ensures.0
 
 pub join-loop-a-preserved-then-t-s : goal.join-loop-a-preserved-then-t-s
@@ -161,7 +168,8 @@ join-loop-a-preserved-then-t-s t c =
     let S = G.some in
     let x0 = the-test.true in
     let y0 = the-if.false in
-    let T = turn_more g.room g.d g.j g.a g.b x0 y0 S (omega (arith, the-get.ensures.0, the-get2.ensures.0, the-if3.true)) in
+    let T = turn_more g.room g.d g.j g.a g.b x0 y0 S
+    (omega (arith, the-get.ensures.0, the-get2.ensures.0, the-if3.true)) in
     again G T the-put3.ensures refl the-get4.ensures.0 the-put3.auto.room
 
 pub join-loop-a-smaller : goal.join-loop-a-smaller
@@ -183,7 +191,8 @@ join-loop-a-smaller t c =
     let y0 = the-if.false in
     let w = g.room in
     let M = subst (λ (l : List ℕ). Meets l g.a g.b the-meet.new.room) the-put4.ensures the-meet.ensures in
-    let T = turn_same g.room g.d g.j g.a g.b x0 y0 S (omega (arith, the-get.ensures.0, the-get2.ensures.0, the-if2.false, the-if3.false)) the-meet.new.room M in
+    let T = turn_same g.room g.d g.j g.a g.b x0 y0 S
+    (omega (arith, the-get.ensures.0, the-get2.ensures.0, the-if2.false, the-if3.false)) the-meet.new.room M in
     less G T refl the-get5.ensures.0 the-get6.ensures.0
 
 pub join-loop-a-preserved : goal.join-loop-a-preserved
@@ -205,11 +214,13 @@ join-loop-a-preserved t c =
     let y0 = the-if.false in
     let w = g.room in
     let M = subst (λ (l : List ℕ). Meets l g.a g.b the-meet.new.room) the-put4.ensures the-meet.ensures in
-    let T = turn_same g.room g.d g.j g.a g.b x0 y0 S (omega (arith, the-get.ensures.0, the-get2.ensures.0, the-if2.false, the-if3.false)) the-meet.new.room M in
+    let T = turn_same g.room g.d g.j g.a g.b x0 y0 S
+    (omega (arith, the-get.ensures.0, the-get2.ensures.0, the-if2.false, the-if3.false)) the-meet.new.room M in
     again G T refl the-get5.ensures.0 the-get6.ensures.0 (the-meet.auto.room ∙ the-put4.auto.room)
 
 pub join-put-requires-2 : goal.join-put-requires-2
-join-put-requires-2 t c = let g = c.loop-a in let G = g.invariant in let S = G.some in (omega (arith, S.two.link), S.two.inside, S.two.words, omega (arith, second_in S, S.two.words))
+join-put-requires-2 t c = let g = c.loop-a in let G = g.invariant in let S = G.some in
+    (omega (arith, S.two.link), S.two.inside, S.two.words, omega (arith, second_in S, S.two.words))
 
 pub join-returns : goal.join-returns
 join-returns t c =
@@ -217,10 +228,12 @@ join-returns t c =
     let the-test = c.loop-a-test in
     let G = g.invariant in
     let S = G.some in
-    subst⁻¹ (λ (u : List ℕ). Joins c.args.room.now c.args.to c.args.word c.args.x c.args.y u) c.put-2.ensures (G.back _ (end_left g.room g.d g.j g.a g.b the-test.false))
+    subst⁻¹ (λ (u : List ℕ). Joins c.args.room.now c.args.to c.args.word c.args.x c.args.y u) c.put-2.ensures
+    (G.back _ (end_left g.room g.d g.j g.a g.b the-test.false))
 
 pub meet-get-c-requires : goal.meet-get-c-requires
-meet-get-c-requires t c = let S = c.requires in let w = c.args.room.now in let a = c.args.a in let b = c.args.b in let Q = S.pair in (omega arith, Q.inside, Q.words)
+meet-get-c-requires t c = let S = c.requires in let w = c.args.room.now in let a = c.args.a in let b = c.args.b in
+    let Q = S.pair in (omega arith, Q.inside, Q.words)
 
 pub meet-get-e-requires : goal.meet-get-e-requires
 meet-get-e-requires t c =
@@ -263,7 +276,8 @@ meet-returns-then-c-eq0 t c =
     let a = c.args.a in
     let b = c.args.b in
     let Q = S.pair in
-    subst⁻¹ (λ (u : List ℕ). Meets w a b u) (c.push.ensures ∙ (λ i. pushed (the-drop-one.ensures i) (the-get2.ensures.0 i)))
+    subst⁻¹ (λ (u : List ℕ). Meets w a b u)
+    (c.push.ensures ∙ (λ i. pushed (the-drop-one.ensures i) (the-get2.ensures.0 i)))
     (left_meets w a b (sym the-get.ensures.0 ∙ the-if.true))
 
 pub meet-put-requires : goal.meet-put-requires
@@ -302,7 +316,9 @@ meet-returns-then-e-eq0 t c =
     let a = c.args.a in
     let b = c.args.b in
     let Q = S.pair in
-    subst⁻¹ (λ (u : List ℕ). Meets w a b u) (c.push-then-e-eq0.ensures ∙ (λ i. pushed ((the-put.ensures ∙ ap (λ (l : List ℕ). poke l a 1 0) the-drop-one.ensures) i) (the-get.ensures.0 i)))
+    subst⁻¹ (λ (u : List ℕ). Meets w a b u)
+    (c.push-then-e-eq0.ensures ∙ (λ i. pushed
+    ((the-put.ensures ∙ ap (λ (l : List ℕ). poke l a 1 0) the-drop-one.ensures) i) (the-get.ensures.0 i)))
     (right_meets w a b (sym the-get2.ensures.0 ∙ the-if2.true))
 
 pub meet-join-requires : goal.meet-join-requires
@@ -318,8 +334,13 @@ meet-join-requires t c =
     let e = the-drop-one.ensures in
     let ca = the-get.ensures.0 in
     let cb = the-get2.ensures.0 in (
-      subst⁻¹ (λ (l : List ℕ). 2 * (live l the-get.result + live l the-get2.result) < t) e (subst⁻¹ (λ (z : ℕ). 2 * (live (dropped w b) z + live (dropped w b) the-get2.result) < t) ca (subst⁻¹ (λ (z : ℕ). 2 * (live (dropped w b) (at w a 1) + live (dropped w b) z) < t) cb (omega (arith, kids_count S, c.decreases)))),
-      subst⁻¹ (λ (l : List ℕ). SomeTwo l a 1 the-get.result the-get2.result) e (subst⁻¹ (λ (z : ℕ). SomeTwo (dropped w b) a 1 z the-get2.result) ca (subst⁻¹ (λ (z : ℕ). SomeTwo (dropped w b) a 1 (at w a 1) z) cb (kids_two S))),
+      subst⁻¹ (λ (l : List ℕ). 2 * (live l the-get.result + live l the-get2.result) < t) e
+          (subst⁻¹ (λ (z : ℕ). 2 * (live (dropped w b) z + live (dropped w b) the-get2.result) < t) ca
+          (subst⁻¹ (λ (z : ℕ). 2 * (live (dropped w b) (at w a 1) + live (dropped w b) z) < t) cb
+          (omega (arith, kids_count S, c.decreases)))),
+      subst⁻¹ (λ (l : List ℕ). SomeTwo l a 1 the-get.result the-get2.result) e
+          (subst⁻¹ (λ (z : ℕ). SomeTwo (dropped w b) a 1 z the-get2.result) ca
+          (subst⁻¹ (λ (z : ℕ). SomeTwo (dropped w b) a 1 (at w a 1) z) cb (kids_two S))),
     )
 
 pub meet-returns : goal.meet-returns
