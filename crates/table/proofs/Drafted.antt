@@ -177,7 +177,7 @@ module _ (ns : List ℕ) (p : ℕ) (ra sa xs : List ℕ) (d : Draft) (a : LineAt
       let e = (rule_says (grammar_of d) xs f).0 in
       record {
         rules_at = rules-more ns ra p (grammar_of d) (rule_of xs) h (line_rule ns p (rule_of xs) (subst (LineAt ns p) e a)) l;
-        stands = rule-stands ns _ sa _ (less d.left_rules);
+        stands = rule-stands ns _ sa (next (with_due Due.rule d) xs) (less d.left_rules);
       }
 
   -- the count of states

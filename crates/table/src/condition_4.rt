@@ -1,7 +1,7 @@
 // Condition 4: the rules of a nonterminal after a dot are items with dot 0, and their sets have what is asked of them.
 ghost use Rattle.std.specs.Prelude.{◌≡◌, ℕ, suc, ◌-◌, ◌<◌, length, get_or, replicate};
 ghost use Rattle.theory.specs.Grammar.{Reduced};
-ghost use Rattle.theory.specs.Table.{rule_at, state_at, After, Condition4};
+ghost use Rattle.theory.specs.Table.{rule_at as nth_rule, state_at as nth_state, After, Condition4};
 ghost use Rattle.lines.specs.Limits.{max_nonterms, max_rules};
 ghost use Rattle.table.specs.Places.{Held, table_in, grammar_in};
 ghost use Rattle.table.specs.Items.{item_in, ItemHeld, StatesHeld};
@@ -95,7 +95,7 @@ fn gather(
     given: &mut [u64; Shape::MAX_RULES],
 )
     requires { Held table.now rule_at.now sizes × StatesHeld table.now state_at.now sizes × Firsts (grammar_in table.now) firsts.now × (s < sizes.states) × (asked.old ≡ replicate max_nonterms 0) × (given.old ≡ replicate max_rules 0) × AllNoted table.now state_at.now sizes sets.now }
-    ensures { Asked (grammar_in table.now) (state_at (table_in table.now) s).items (length (state_at (table_in table.now) s).items) asked.new × Given (grammar_in table.now) (state_at (table_in table.now) s).items (length (state_at (table_in table.now) s).items) given.new }
+    ensures { Asked (grammar_in table.now) (nth_state (table_in table.now) s).items (length (nth_state (table_in table.now) s).items) asked.new × Given (grammar_in table.now) (nth_state (table_in table.now) s).items (length (nth_state (table_in table.now) s).items) given.new }
 {
     let n = item_count(table, state_at, sizes, s);
     let mut at = first_item(table, state_at, sizes, s);
@@ -117,7 +117,7 @@ fn all_given(
     given: &[u64; Shape::MAX_RULES],
 ) -> bool
     requires { Held table.now rule_at.now sizes }
-    ensures { Tells result ((r : ℕ) → r < sizes.rules → (a : ℕ) → In (get_or asked.now ((rule_at (grammar_in table.now) r).left - sizes.terms - 1) 0) a → In (get_or given.now r 0) a) }
+    ensures { Tells result ((r : ℕ) → r < sizes.rules → (a : ℕ) → In (get_or asked.now ((nth_rule (grammar_in table.now) r).left - sizes.terms - 1) 0) a → In (get_or given.now r 0) a) }
 {
     let mut r = 0;
     while r < sizes.rules {

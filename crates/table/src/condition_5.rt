@@ -1,7 +1,7 @@
 // Condition 5: a state's go lines, and the items of their targets, are what its items move on to.
 ghost use Rattle.std.specs.Prelude.{◌≡◌, true, suc, ◌<◌, length, get_or};
 ghost use mathlib.Core.List.{Memᴰ as Mem};
-ghost use Rattle.theory.specs.Table.{Item, Go, state_at, InState, Condition5};
+ghost use Rattle.theory.specs.Table.{Item, Go, state_at as nth_state, InState, Condition5};
 ghost use Rattle.lines.specs.Limits.{max_states};
 ghost use Rattle.lines.specs.Ranges.{InRange};
 ghost use Rattle.table.specs.Places.{Held, table_in};
@@ -35,7 +35,7 @@ fn set_of(
     rule: usize,
     dot: usize,
 ) -> u64
-    requires { StatesHeld table.now state_at.now sizes × KeptBefore (table_in table.now) 5 × (s < sizes.states) × AllNoted table.now state_at.now sizes sets.now × Spots table.now state_at.now s (length (state_at (table_in table.now) s).items) spots.now × CoreIn rule dot }
+    requires { StatesHeld table.now state_at.now sizes × KeptBefore (table_in table.now) 5 × (s < sizes.states) × AllNoted table.now state_at.now sizes sets.now × Spots table.now state_at.now s (length (nth_state (table_in table.now) s).items) spots.now × CoreIn rule dot }
     ensures { AheadIn (table_in table.now) s rule dot result }
 {
     let at = spot_of(spots, rule, dot);
@@ -57,7 +57,7 @@ fn comes_back(
     x: usize,
     at: usize,
 ) -> bool
-    requires { Held table.now rule_at.now sizes × StatesHeld table.now state_at.now sizes × KeptBefore (table_in table.now) 5 × (s < sizes.states) × (x ≡ sizes.terms → ⊥) × ItemHeld table.now at × AllNoted table.now state_at.now sizes sets.now × Spots table.now state_at.now s (length (state_at (table_in table.now) s).items) spots.now × SetNoted table.now sets.now at }
+    requires { Held table.now rule_at.now sizes × StatesHeld table.now state_at.now sizes × KeptBefore (table_in table.now) 5 × (s < sizes.states) × (x ≡ sizes.terms → ⊥) × ItemHeld table.now at × AllNoted table.now state_at.now sizes sets.now × Spots table.now state_at.now s (length (nth_state (table_in table.now) s).items) spots.now × SetNoted table.now sets.now at }
     ensures { Tells result (Back (table_in table.now) s x (item_in table.now at)) }
 {
     let d = item_dot(table, at);
@@ -100,7 +100,7 @@ fn all_back(
     to: usize,
     marks: &mut [u8; CORES],
 ) -> bool
-    requires { Held table.now rule_at.now sizes × StatesHeld table.now state_at.now sizes × KeptBefore (table_in table.now) 5 × (s < sizes.states) × (x ≡ sizes.terms → ⊥) × (to < sizes.states) × AllNoted table.now state_at.now sizes sets.now × Spots table.now state_at.now s (length (state_at (table_in table.now) s).items) spots.now × (length marks.old ≡ cores) }
+    requires { Held table.now rule_at.now sizes × StatesHeld table.now state_at.now sizes × KeptBefore (table_in table.now) 5 × (s < sizes.states) × (x ≡ sizes.terms → ⊥) × (to < sizes.states) × AllNoted table.now state_at.now sizes sets.now × Spots table.now state_at.now s (length (nth_state (table_in table.now) s).items) spots.now × (length marks.old ≡ cores) }
     ensures tells { Tells result ((j : Item) → InState (table_in table.now) to j → Back (table_in table.now) s x j) }
     ensures marked_at { result ≡ true → MarkedAt s (MetIn (table_in table.now) s to) marks.old marks.new }
 {
@@ -130,7 +130,7 @@ fn led(
     at: usize,
     marks: &mut [u8; CORES],
 ) -> bool
-    requires { Held table.now rule_at.now sizes × StatesHeld table.now state_at.now sizes × KeptBefore (table_in table.now) 5 × (s < sizes.states) × GoHere table.now at (go_here table.now at) × AllNoted table.now state_at.now sizes sets.now × Spots table.now state_at.now s (length (state_at (table_in table.now) s).items) spots.now × (length marks.old ≡ cores) }
+    requires { Held table.now rule_at.now sizes × StatesHeld table.now state_at.now sizes × KeptBefore (table_in table.now) 5 × (s < sizes.states) × GoHere table.now at (go_here table.now at) × AllNoted table.now state_at.now sizes sets.now × Spots table.now state_at.now s (length (nth_state (table_in table.now) s).items) spots.now × (length marks.old ≡ cores) }
     ensures tells { Tells result (Led (table_in table.now) s (go_here table.now at)) }
     ensures marked_at { result ≡ true → MarkedAt s (MetIn (table_in table.now) s (go_here table.now at).to) marks.old marks.new }
 {
@@ -155,8 +155,8 @@ fn all_led(
     s: usize,
     marks: &mut [u8; CORES],
 ) -> bool
-    requires { Held table.now rule_at.now sizes × StatesHeld table.now state_at.now sizes × KeptBefore (table_in table.now) 5 × (s < sizes.states) × AllNoted table.now state_at.now sizes sets.now × Spots table.now state_at.now s (length (state_at (table_in table.now) s).items) spots.now × (length marks.old ≡ cores) }
-    ensures tells { Tells result ((l : Go) → Mem l (state_at (table_in table.now) s).gos → Led (table_in table.now) s l) }
+    requires { Held table.now rule_at.now sizes × StatesHeld table.now state_at.now sizes × KeptBefore (table_in table.now) 5 × (s < sizes.states) × AllNoted table.now state_at.now sizes sets.now × Spots table.now state_at.now s (length (nth_state (table_in table.now) s).items) spots.now × (length marks.old ≡ cores) }
+    ensures tells { Tells result ((l : Go) → Mem l (nth_state (table_in table.now) s).gos → Led (table_in table.now) s l) }
     ensures marked_at { result ≡ true → MarkedAt s (Met (table_in table.now) s) marks.old marks.new }
 {
     let n = go_count(table, state_at, sizes, s);
@@ -190,7 +190,7 @@ fn moves_on(
     s: usize,
     at: usize,
 ) -> bool
-    requires { Held table.now rule_at.now sizes × StatesHeld table.now state_at.now sizes × KeptBefore (table_in table.now) 5 × (s < sizes.states) × ItemHeld table.now at × InState (table_in table.now) s (item_in table.now at) × ((l : Go) → Mem l (state_at (table_in table.now) s).gos → Led (table_in table.now) s l) × MarksTell (table_in table.now) s marks.now }
+    requires { Held table.now rule_at.now sizes × StatesHeld table.now state_at.now sizes × KeptBefore (table_in table.now) 5 × (s < sizes.states) × ItemHeld table.now at × InState (table_in table.now) s (item_in table.now at) × ((l : Go) → Mem l (nth_state (table_in table.now) s).gos → Led (table_in table.now) s l) × MarksTell (table_in table.now) s marks.now }
     ensures { Tells result (Onward (table_in table.now) s (item_in table.now at)) }
 {
     if after_dot(table, rule_at, sizes, at) == sizes.terms {
@@ -208,7 +208,7 @@ fn all_move(
     marks: &[u8; CORES],
     s: usize,
 ) -> bool
-    requires { Held table.now rule_at.now sizes × StatesHeld table.now state_at.now sizes × KeptBefore (table_in table.now) 5 × (s < sizes.states) × ((l : Go) → Mem l (state_at (table_in table.now) s).gos → Led (table_in table.now) s l) × MarksTell (table_in table.now) s marks.now }
+    requires { Held table.now rule_at.now sizes × StatesHeld table.now state_at.now sizes × KeptBefore (table_in table.now) 5 × (s < sizes.states) × ((l : Go) → Mem l (nth_state (table_in table.now) s).gos → Led (table_in table.now) s l) × MarksTell (table_in table.now) s marks.now }
     ensures { Tells result ((i : Item) → InState (table_in table.now) s i → Onward (table_in table.now) s i) }
 {
     let n = item_count(table, state_at, sizes, s);
@@ -237,7 +237,7 @@ fn keeps_5(
 ) -> bool
     requires { Held table.now rule_at.now sizes × StatesHeld table.now state_at.now sizes × KeptBefore (table_in table.now) 5 × (s < sizes.states) × AllNoted table.now state_at.now sizes sets.now × Spots table.now state_at.now s 0 spots.old × MarksTo s marks.old }
     ensures tells { Tells result (Condition5 (table_in table.now) s) }
-    ensures spots { result ≡ true → Spots table.now state_at.now s (length (state_at (table_in table.now) s).items) spots.new × MarksTo (suc s) marks.new }
+    ensures spots { result ≡ true → Spots table.now state_at.now s (length (nth_state (table_in table.now) s).items) spots.new × MarksTo (suc s) marks.new }
 {
     note_items(table, state_at, sizes, s, spots);
     if !all_led(table, rule_at, state_at, sizes, sets, spots, s, marks) {

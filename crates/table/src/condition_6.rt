@@ -1,7 +1,7 @@
 // Condition 6: every state but 0 is the target of a go line of a lower-numbered state.
 ghost use Rattle.std.specs.Prelude.{◌≡◌, ◌<◌, length};
 ghost use Rattle.lines.specs.Limits.{max_states};
-ghost use Rattle.theory.specs.Table.{state_at};
+ghost use Rattle.theory.specs.Table.{state_at as nth_state};
 ghost use Rattle.table.specs.Conditions.{LowestBreaker};
 ghost use Rattle.table.specs.Conditions.Parts.{Marked};
 ghost use Rattle.table.specs.Items.{StatesHeld};
@@ -20,7 +20,7 @@ fn mark_targets(
     led: &mut [bool; Shape::MAX_STATES],
 )
     requires { StatesHeld table.now state_at.now sizes × (s < sizes.states) × (length led.old ≡ max_states) }
-    ensures { Marked (state_at (table_in table.now) s).gos led.old led.new }
+    ensures { Marked (nth_state (table_in table.now) s).gos led.old led.new }
 {
     let n = go_count(table, state_at, sizes, s);
     let mut at = first_go(table, state_at, sizes, s);

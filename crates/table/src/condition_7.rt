@@ -1,6 +1,6 @@
 // Condition 7: in a state and on a token at most one of the go line and the complete items whose set has it.
 ghost use Rattle.std.specs.Prelude.{◌<◌};
-ghost use Rattle.theory.specs.Table.{Condition7, Complete, state_at};
+ghost use Rattle.theory.specs.Table.{Condition7, Complete, state_at as nth_state};
 ghost use Rattle.table.specs.Conditions.{LowestBreaker};
 ghost use Rattle.table.specs.Conditions.Parts.{NoShift};
 ghost use Rattle.table.specs.Items.{item_in, ItemHeld, StatesHeld};
@@ -31,7 +31,7 @@ fn no_shift(
     set: u64,
 ) -> bool
     requires { StatesHeld table.now state_at.now sizes × (s < sizes.states) }
-    ensures { Tells result (NoShift sizes.terms (state_at (table_in table.now) s).gos set) }
+    ensures { Tells result (NoShift sizes.terms (nth_state (table_in table.now) s).gos set) }
 {
     let n = go_count(table, state_at, sizes, s);
     let mut at = first_go(table, state_at, sizes, s);

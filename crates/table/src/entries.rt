@@ -1,6 +1,6 @@
 // The look-ups of a table, built once: a run then finds an action, a go target, a rule's length or left side at one place.
 ghost use Rattle.std.specs.Prelude.{◌≡◌, cond, [], ◌∷◌, suc, ◌+◌, ◌*◌, ◌≤◌, ◌<◌, length, replicate};
-ghost use Rattle.theory.specs.Table.{rule_at, count, has, reduce_in, reduce_on, goto};
+ghost use Rattle.theory.specs.Table.{rule_at as nth_rule, count, has, reduce_in, reduce_on, goto};
 ghost use Rattle.lines.specs.Limits.{max_terms, max_nonterms, max_rules, max_states};
 ghost use Rattle.table.specs.Places.{Held, table_in, grammar_in};
 ghost use Rattle.table.specs.Items.{item_in, ItemHeld, StatesHeld};
@@ -155,7 +155,7 @@ fn fill_rules(
     lefts: &mut [u16; Shape::MAX_RULES],
 )
     requires { Held table.now rule_at.now sizes }
-    ensures { Row (length (grammar_in table.now).rules) max_rules (λ r. length (rule_at (grammar_in table.now) r).right) lens.new × Row (length (grammar_in table.now).rules) max_rules (λ r. (rule_at (grammar_in table.now) r).left) lefts.new }
+    ensures { Row (length (grammar_in table.now).rules) max_rules (λ r. length (nth_rule (grammar_in table.now) r).right) lens.new × Row (length (grammar_in table.now).rules) max_rules (λ r. (nth_rule (grammar_in table.now) r).left) lefts.new }
 {
     clear(lens);
     clear(lefts);

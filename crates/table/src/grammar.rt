@@ -1,6 +1,6 @@
 // Sets of a grammar's nonterminals, found by rounds over the rules.
 ghost use Rattle.std.specs.Prelude.{◌≡◌, ◌+◌, ◌<◌, ◌≤◌, true};
-ghost use Rattle.theory.specs.Table.{rule_at};
+ghost use Rattle.theory.specs.Table.{rule_at as nth_rule};
 ghost use Rattle.table.specs.Places.{Held, grammar_in};
 ghost use Rattle.table.specs.Tests.Tell.{Tells};
 ghost use Rattle.table.specs.Sets.{SetOf, set_size};
@@ -50,7 +50,7 @@ fn all_made(
     set: u64,
 ) -> bool
     requires { Held table.now rule_at.now sizes × (r < sizes.rules) }
-    ensures { Tells result (Made (grammar_in table.now) set (rule_at (grammar_in table.now) r).right) }
+    ensures { Tells result (Made (grammar_in table.now) set (nth_rule (grammar_in table.now) r).right) }
 {
     let n = right_count(table, rule_at, sizes, r);
     let mut j = 0;
@@ -73,7 +73,7 @@ fn productive_by(
     set: u64,
 ) -> u64
     requires { Held table.now rule_at.now sizes × (r < sizes.rules) × Part (grammar_in table.now) Notion.Productive set }
-    ensures { Grows (grammar_in table.now) Notion.Productive (rule_at (grammar_in table.now) r) set result }
+    ensures { Grows (grammar_in table.now) Notion.Productive (nth_rule (grammar_in table.now) r) set result }
 {
     if all_made(table, rule_at, sizes, r, set) {
         let a = left_of(table, rule_at, sizes, r);
@@ -90,8 +90,8 @@ fn with_right(
     r: usize,
     set: u64,
 ) -> u64
-    requires { Held table.now rule_at.now sizes × (r < sizes.rules) × Part (grammar_in table.now) Notion.Reachable set × (member sizes.terms set (rule_at (grammar_in table.now) r).left ≡ true) }
-    ensures { Grows (grammar_in table.now) Notion.Reachable (rule_at (grammar_in table.now) r) set result }
+    requires { Held table.now rule_at.now sizes × (r < sizes.rules) × Part (grammar_in table.now) Notion.Reachable set × (member sizes.terms set (nth_rule (grammar_in table.now) r).left ≡ true) }
+    ensures { Grows (grammar_in table.now) Notion.Reachable (nth_rule (grammar_in table.now) r) set result }
 {
     let n = right_count(table, rule_at, sizes, r);
     let mut out = set;
@@ -115,7 +115,7 @@ fn reachable_by(
     set: u64,
 ) -> u64
     requires { Held table.now rule_at.now sizes × (r < sizes.rules) × Part (grammar_in table.now) Notion.Reachable set }
-    ensures { Grows (grammar_in table.now) Notion.Reachable (rule_at (grammar_in table.now) r) set result }
+    ensures { Grows (grammar_in table.now) Notion.Reachable (nth_rule (grammar_in table.now) r) set result }
 {
     let a = left_of(table, rule_at, sizes, r);
     if member(sizes.terms, set, a) {
@@ -134,7 +134,7 @@ fn comes_by(
     set: u64,
 ) -> u64
     requires { Held table.now rule_at.now sizes × (r < sizes.rules) × Part (grammar_in table.now) (Notion.ComesTo c) set }
-    ensures { Grows (grammar_in table.now) (Notion.ComesTo c) (rule_at (grammar_in table.now) r) set result }
+    ensures { Grows (grammar_in table.now) (Notion.ComesTo c) (nth_rule (grammar_in table.now) r) set result }
 {
     if right_count(table, rule_at, sizes, r) != 1 {
         return set;
@@ -159,7 +159,7 @@ fn grow_by(
     set: u64,
 ) -> u64
     requires { Held table.now rule_at.now sizes × (r < sizes.rules) × Part (grammar_in table.now) notion set }
-    ensures { Grows (grammar_in table.now) notion (rule_at (grammar_in table.now) r) set result }
+    ensures { Grows (grammar_in table.now) notion (nth_rule (grammar_in table.now) r) set result }
 {
     match notion {
         Notion::Productive => productive_by(table, rule_at, sizes, r, set),

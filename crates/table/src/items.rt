@@ -1,6 +1,6 @@
 // The items and go lines of a table's states.
 ghost use Rattle.std.specs.Prelude.{◌≡◌, ◌+◌, ◌<◌, ◌≤◌, length, get_or};
-ghost use Rattle.theory.specs.Table.{rule_at, state_at};
+ghost use Rattle.theory.specs.Table.{rule_at as nth_rule, state_at as nth_state};
 ghost use Rattle.lines.specs.Limits.{max_states};
 ghost use Rattle.table.specs.Places.{Held, table_in, grammar_in, after_item, after_state, gos_place};
 ghost use Rattle.table.specs.Items.{item_in, go_here, ItemHeld, StatesHeld};
@@ -26,7 +26,7 @@ pub(crate) fn item_count(
     s: usize,
 ) -> usize
     requires { StatesHeld table.now state_at.now sizes × (s < sizes.states) }
-    ensures { result ≡ length (state_at (table_in table.now) s).items }
+    ensures { result ≡ length (nth_state (table_in table.now) s).items }
 {
     let p = state_place(state_at, s);
     number(table, p + 1)
@@ -40,7 +40,7 @@ pub(crate) fn go_count(
     s: usize,
 ) -> usize
     requires { StatesHeld table.now state_at.now sizes × (s < sizes.states) }
-    ensures { result ≡ length (state_at (table_in table.now) s).gos }
+    ensures { result ≡ length (nth_state (table_in table.now) s).gos }
 {
     let p = state_place(state_at, s);
     number(table, p + 2)
@@ -62,7 +62,7 @@ pub(crate) fn first_item(
 // The place after all lines of a state.
 fn state_end(table: &[u16], state_at: &[u16; Shape::MAX_STATES], sizes: Sizes, s: usize) -> usize
     requires { StatesHeld table.now state_at.now sizes × (s < sizes.states) }
-    ensures { result ≡ after_state (get_or state_at.now s 0) (state_at (table_in table.now) s) }
+    ensures { result ≡ after_state (get_or state_at.now s 0) (nth_state (table_in table.now) s) }
 {
     if s + 1 < sizes.states {
         return state_place(state_at, s + 1);
@@ -78,7 +78,7 @@ pub(crate) fn first_go(
     s: usize,
 ) -> usize
     requires { StatesHeld table.now state_at.now sizes × (s < sizes.states) }
-    ensures { result ≡ gos_place (get_or state_at.now s 0) (state_at (table_in table.now) s) }
+    ensures { result ≡ gos_place (get_or state_at.now s 0) (nth_state (table_in table.now) s) }
 {
     let n = go_count(table, state_at, sizes, s);
     state_end(table, state_at, sizes, s) - 3 * n
@@ -117,7 +117,7 @@ pub(crate) fn symbol_at(
     j: usize,
 ) -> usize
     requires { Held table.now rule_at.now sizes × (r ≤ sizes.rules) }
-    ensures { result ≡ get_or (rule_at (grammar_in table.now) r).right j (grammar_in table.now).terms }
+    ensures { result ≡ get_or (nth_rule (grammar_in table.now) r).right j (grammar_in table.now).terms }
 {
     if r < sizes.rules {
         if j < right_count(table, rule_at, sizes, r) {

@@ -1,6 +1,6 @@
 // What stands at the places of a table's numbers.
 ghost use Rattle.std.specs.Prelude.{◌≡◌, ◌+◌, ◌<◌, length, get_or};
-ghost use Rattle.theory.specs.Table.{rule_at};
+ghost use Rattle.theory.specs.Table.{rule_at as nth_rule};
 ghost use Rattle.lines.specs.Limits.{max_rules};
 ghost use Rattle.table.specs.Places.{Held, grammar_in};
 
@@ -45,7 +45,7 @@ pub(crate) fn left_of(
     r: usize,
 ) -> usize
     requires { Held table.now rule_at.now sizes × (r < sizes.rules) }
-    ensures { result ≡ (rule_at (grammar_in table.now) r).left }
+    ensures { result ≡ (nth_rule (grammar_in table.now) r).left }
 {
     let p = rule_place(rule_at, r);
     number(table, p + 1)
@@ -59,7 +59,7 @@ pub(crate) fn right_count(
     r: usize,
 ) -> usize
     requires { Held table.now rule_at.now sizes × (r < sizes.rules) }
-    ensures { result ≡ length (rule_at (grammar_in table.now) r).right }
+    ensures { result ≡ length (nth_rule (grammar_in table.now) r).right }
 {
     let p = rule_place(rule_at, r);
     number(table, p) - 1
@@ -73,8 +73,8 @@ pub(crate) fn right_symbol(
     r: usize,
     j: usize,
 ) -> usize
-    requires { Held table.now rule_at.now sizes × (r < sizes.rules) × (j < length (rule_at (grammar_in table.now) r).right) }
-    ensures { result ≡ get_or (rule_at (grammar_in table.now) r).right j 0 }
+    requires { Held table.now rule_at.now sizes × (r < sizes.rules) × (j < length (nth_rule (grammar_in table.now) r).right) }
+    ensures { result ≡ get_or (nth_rule (grammar_in table.now) r).right j 0 }
 {
     let p = rule_place(rule_at, r);
     number(table, p + 2 + j)

@@ -1,7 +1,7 @@
 // Where the items of a state stand, by rule and dot. The states are walked over in their order, and each item's place is noted; what stands below
 // the place of the state's first item was noted for an earlier state, or is 0.
 ghost use Rattle.std.specs.Prelude.{◌≡◌, true, ◌<◌, ◌≤◌, length, get_or, set};
-ghost use Rattle.theory.specs.Table.{state_at, Condition2};
+ghost use Rattle.theory.specs.Table.{state_at as nth_state, Condition2};
 ghost use Rattle.lines.specs.Limits.{max_numbers};
 ghost use Rattle.table.specs.Items.{StatesHeld};
 ghost use Rattle.table.specs.Places.{table_in};
@@ -51,7 +51,7 @@ pub(crate) fn note_items(
 ) -> bool
     requires { StatesHeld table.now state_at.now sizes × (s < sizes.states) × Spots table.now state_at.now s 0 spots.old }
     ensures tells { Tells result (Condition2 (table_in table.now) s) }
-    ensures spots { result ≡ true → Spots table.now state_at.now s (length (state_at (table_in table.now) s).items) spots.new }
+    ensures spots { result ≡ true → Spots table.now state_at.now s (length (nth_state (table_in table.now) s).items) spots.new }
 {
     let n = item_count(table, state_at, sizes, s);
     let first = first_item(table, state_at, sizes, s);

@@ -35,12 +35,12 @@ loop-k-init c = let H = c.requires.0 in
 pub note_asked-requires : goal.note_asked-requires
 note_asked-requires c = let n = c.item_count-n.ensures in
     let h = item_here c.requires.1 c.args.s c.requires.3 c.loop-k.k (omega arith) c.loop-k.at c.loop-k.invariant.1 in
-    (c.requires.0, c.requires.2, h.held, c.loop-k.invariant.2, noted_here c.args.state-at.now c.args.sizes c.requires.6 c.args.s c.requires.3 c.loop-k.k (omega arith) c.loop-k.invariant.1)
+    (c.requires.0, c.requires.2, h.held, c.loop-k.invariant.2, noted_here c.args.state_at.now c.args.sizes c.requires.6 c.args.s c.requires.3 c.loop-k.k (omega arith) c.loop-k.invariant.1)
 
 pub note_given-requires : goal.note_given-requires
 note_given-requires c = let n = c.item_count-n.ensures in
     let h = item_here c.requires.1 c.args.s c.requires.3 c.loop-k.k (omega arith) c.loop-k.at c.loop-k.invariant.1 in
-    (c.requires.0, h.held, c.loop-k.invariant.3, noted_here c.args.state-at.now c.args.sizes c.requires.6 c.args.s c.requires.3 c.loop-k.k (omega arith) c.loop-k.invariant.1)
+    (c.requires.0, h.held, c.loop-k.invariant.3, noted_here c.args.state_at.now c.args.sizes c.requires.6 c.args.s c.requires.3 c.loop-k.k (omega arith) c.loop-k.invariant.1)
 
 pub next_item-at-requires : goal.next_item-at-requires
 next_item-at-requires c = let n = c.item_count-n.ensures in

@@ -23,7 +23,7 @@ pub comes_back-requires : goal.comes_back-requires
 comes_back-requires c = let w = c.loop-k.invariant.0 in
     let t = c.loop-k-test.true in
     let h = walk_here c.requires.1 c.args.to c.requires.5 w t in
-    (c.requires.0, c.requires.1, c.requires.2, c.requires.3, c.requires.4, h.held, c.requires.6, c.requires.7, noted_walk c.args.state-at.now c.args.sizes c.requires.6 c.args.to c.requires.5 w t)
+    (c.requires.0, c.requires.1, c.requires.2, c.requires.3, c.requires.4, h.held, c.requires.6, c.requires.7, noted_walk c.args.state_at.now c.args.sizes c.requires.6 c.args.to c.requires.5 w t)
 
 pub returns-then-not-comes_back : goal.returns-then-not-comes_back
 returns-then-not-comes_back c = let w = c.loop-k.invariant.0 in

@@ -10,7 +10,7 @@ use Rattle.table.proofs.condition_5.all_led.Given as goal
 
 abbrev pub invariant-loop-k : goal.invariant-loop-k
 invariant-loop-k l = AtGo l.table l.state_at l.s l.n l.k l.at × ((j : ℕ) → j < l.k → Led (table_in l.table) l.s (get_or (state_at (table_in l.table) l.s).gos j no_go)) ×
-    MarkedAt l.s (Some (λ (l : Go) (c : ℕ). MetIn (table_in l.table) l.s l.to c) (state_at (table_in l.table) l.s).gos no_go l.k) l.initial.marks l.marks
+    MarkedAt l.s (Some (λ (g : Go) (c : ℕ). MetIn (table_in l.table) l.s g.to c) (state_at (table_in l.table) l.s).gos no_go l.k) l.initial.marks l.marks
 
 abbrev pub decreases-loop-k : goal.decreases-loop-k
 decreases-loop-k l = l.n - l.k

@@ -38,7 +38,7 @@ set_at-requires c = let p = c.spot_of.ensures in
     let f = c.first_item.ensures in
     let l = c.if-at-first_item.false in
     let (j, g, u, v) = c.requires.4.found (core_of c.args.rule c.args.dot) (omega arith) in
-    noted_here c.args.state-at.now c.args.sizes c.requires.3 c.args.s c.requires.2 j g (p ∙ v)
+    noted_here c.args.state_at.now c.args.sizes c.requires.3 c.args.s c.requires.2 j g (p ∙ v)
 
 pub returns : goal.returns
 returns c = let s = c.args.s in

@@ -25,7 +25,7 @@ pub is_complete-requires : goal.is_complete-requires
 is_complete-requires c = (c.requires.0, (walk_here c.requires.1 c.args.s c.requires.2 c.loop-k.invariant.0 c.loop-k-test.true).held)
 
 pub set_at-ahead-requires : goal.set_at-ahead-requires
-set_at-ahead-requires c = noted_walk c.args.state-at.now c.args.sizes c.requires.3 c.args.s c.requires.2 c.loop-k.invariant.0 c.loop-k-test.true
+set_at-ahead-requires c = noted_walk c.args.state_at.now c.args.sizes c.requires.3 c.args.s c.requires.2 c.loop-k.invariant.0 c.loop-k-test.true
 
 pub returns-then-set-ahead-ne0 : goal.returns-then-set-ahead-ne0
 returns-then-set-ahead-ne0 c = let ns = c.args.table.now in

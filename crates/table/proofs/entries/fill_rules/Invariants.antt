@@ -9,7 +9,9 @@ use Rattle.table.specs.LookUps.{Row}
 use Rattle.table.proofs.entries.fill_rules.Given as goal
 
 abbrev pub invariant-loop-r : goal.invariant-loop-r
-invariant-loop-r l = (l.r ≤ l.sizes.rules) × Row l.r max_rules (λ l.r. length (rule_at (grammar_in l.table) l.r).right) l.lens × Row l.r max_rules (λ l.r. (rule_at (grammar_in l.table) l.r).left) l.lefts
+invariant-loop-r l = (l.r ≤ l.sizes.rules) ×
+    Row l.r max_rules (λ r. length (rule_at (grammar_in l.table) r).right) l.lens ×
+    Row l.r max_rules (λ r. (rule_at (grammar_in l.table) r).left) l.lefts
 
 abbrev pub decreases-loop-r : goal.decreases-loop-r
 decreases-loop-r l = l.sizes.rules - l.r

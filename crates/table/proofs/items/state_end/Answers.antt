@@ -10,7 +10,7 @@ pub returns-then-s-sizes : goal.returns-then-s-sizes
 returns-then-s-sizes c = let H = c.requires.0 in
     let l = c.if-s-sizes.true in
     let e = H.states_are in
-    c.state_place.ensures ∙ (ap (λ (n : ℕ). get_or c.args.state-at.now n 0) (add-one c.args.s) ∙ sym (H.states_at.next c.args.s (omega arith)))
+    c.state_place.ensures ∙ (ap (λ (n : ℕ). get_or c.args.state_at.now n 0) (add-one c.args.s) ∙ sym (H.states_at.next c.args.s (omega arith)))
 
 pub returns : goal.returns
 returns c = let H = c.requires.0 in

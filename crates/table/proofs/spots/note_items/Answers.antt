@@ -84,7 +84,7 @@ loop-k-preserved c = let ns = c.args.table.now in
     let f = c.first_item-first.ensures in
     let l = c.if-first-spot_of.false in (
       walk_on w t h c.next_item-at.ensures,
-      subst (Spots ns c.args.state-at.now s (c.loop-k.k + 1)) (sym c.note_spot.ensures) (spots_more spots (omega arith) w.stands (λ i. core_of (r i) (d i)) (omega arith)),
+      subst (Spots ns c.args.state_at.now s (c.loop-k.k + 1)) (sym c.note_spot.ensures) (spots_more spots (omega arith) w.stands (λ i. core_of (r i) (d i)) (omega arith)),
       below_more _ _ all (lone_spot spots c.spot_of.ensures r d (omega arith)),
     )
 
@@ -96,4 +96,4 @@ returns c = let ns = c.args.table.now in
     let p = w.passed in
     let t = c.loop-k-test.false in
     let e : c.loop-k.k ≡ length (state_at (table_in ns) s).items = omega arith in
-    (tells_yes (lone_all (table_in ns) s (λ j l. all j (omega arith))), λ z. subst (λ (k : ℕ). Spots ns c.args.state-at.now s k c.loop-k.spots) e spots)
+    (tells_yes (lone_all (table_in ns) s (λ j l. all j (omega arith))), λ z. subst (λ (k : ℕ). Spots ns c.args.state_at.now s k c.loop-k.spots) e spots)

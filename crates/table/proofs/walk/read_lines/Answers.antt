@@ -15,8 +15,8 @@ start-s-requires c = tt
 pub loop-at-init : goal.loop-at-init
 loop-at-init c = (
   omega arith,
-  subst (λ s. Walked c.args.table.now 0 0 s _ c.args.at_rule.now c.args.state-at.now) (sym c.start-s.ensures)
-      (walk_start c.args.table.now _ c.args.at_rule.now c.args.state-at.now refl c.requires.0 c.requires.1),
+  subst (λ s. Walked c.args.table.now 0 0 s _ c.args.rule_at.now c.args.state_at.now) (sym c.start-s.ensures)
+      (walk_start c.args.table.now _ c.args.rule_at.now c.args.state_at.now refl c.requires.0 c.requires.1),
   subst Heading (sym c.start-s.ensures) start_heading,
   refl,
 
@@ -36,7 +36,7 @@ pub returns-in-State : goal.returns-in-State
 returns-in-State c =
     let L = c.loop-at in
     let z = c.sizes_of in
-    c.read_states.ensures L.at_rule
+    c.read_states.ensures L.rule_at
     (walk_states L.invariant.1 L.invariant.2 c.in-State.is z.result z.ensures)
 
 pub returns-then-table-from : goal.returns-then-table-from
@@ -112,7 +112,7 @@ loop-at-preserved c =
       walk_is
           (walk_next L.invariant.1 t (omega arith) _ (part_is c.args.table.now L.at N.result n) _ a)
           (ap (λ (x : ℕ). L.at + 1 + x) (sym n)) (sym c.renewed-s.ensures) (sym A.ensures.1) (sym c.note_rule.ensures)
-          (other_state L.s L.state-at L.at k),
+          (other_state L.s L.state_at L.at k),
       subst Heading (sym c.renewed-s.ensures) (next_heading L.invariant.2 k L.lengths _ _ a),
       L.invariant.3,
     )
