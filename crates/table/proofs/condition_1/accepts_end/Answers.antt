@@ -1,5 +1,4 @@
 use native.Mathlib.Omega.{arith}
-use mathlib.Core.Logic.{⊎_elim}
 use mathlib.Core.Path.{◌∙◌, ap, sym}
 use lib.ListN.{get_or}
 use borrow.Author.Tests.{not-false}
@@ -10,6 +9,7 @@ use Rattle.table.specs.Items.Held.{walk_here, walk_first, walk_on}
 use Rattle.table.specs.Members.{mem_at, all_mem}
 use Rattle.table.specs.Places.{table_in, no_item}
 use Rattle.table.proofs.condition_1.accepts_end.Goals as goal
+use Rattle.table.proofs.condition_1.accepts_end.Goals.{then-item_rule-sizes+else-not-only_end, else-item_rule-sizes}
 
 pub loop-k-init : goal.loop-k-init
 loop-k-init c = (walk_first c.item_count-n.ensures c.first_item-at.ensures, below_none _)
@@ -44,10 +44,13 @@ loop-k-preserved c = let (w, all) = c.loop-k.invariant in
     let t = c.loop-k-test.true in
     let h = walk_here c.requires.0 c.args.s c.requires.1 w t in (
       walk_on w t h c.next_item-at.ensures,
-      below_more _ _ all (λ r. ⊎_elim
-          (λ v. ap (λ (i : Item). i.ahead) (sym h.same) ∙ v.1.ensures.holds (not-false _ v.2.left))
-          (λ v. absurd (v.left (c.item_rule.ensures ∙ (ap (λ (i : Item). i.rule) h.same ∙ (r ∙ sym c.requires.0.rules_are)))))
-          c.if-item_rule-sizes.branch),
+      below_more _ _ all (λ r. elim c.if-item_rule-sizes.branch [
+        then-item_rule-sizes+else-not-only_end v ↦
+            ap (λ (i : Item). i.ahead) (sym h.same) ∙ v.only_end.ensures.holds v.if-not-only_end.false
+      | else-item_rule-sizes v ↦
+            absurd (v.if-item_rule-sizes.false
+              (c.item_rule.ensures ∙ (ap (λ (i : Item). i.rule) h.same ∙ (r ∙ sym c.requires.0.rules_are))))
+      ]),
     )
 
 pub returns : goal.returns

@@ -16,6 +16,7 @@ use Rattle.table.proofs.SetsNoted.{noted_walk}
 use Rattle.table.proofs.Clash.{DoneOn, Apart, none_done, done_same, done_more, apart_here, clash_here, clash_tells, all_apart, done_all}
 use Rattle.table.proofs.SetOf.{set_none}
 use Rattle.table.proofs.condition_7.keeps_7.Goals as goal
+use Rattle.table.proofs.condition_7.keeps_7.Goals.{then-is_complete+else-set-ahead-ne0, else-is_complete}
 
 pub loop-k-init : goal.loop-k-init
 loop-k-init c = let ns = c.args.table.now in
@@ -58,19 +59,24 @@ loop-k-preserved c = let ns = c.args.table.now in
     let t = c.loop-k-test.true in
     let k = c.loop-k.k in
     let h = walk_here c.requires.1 c.args.s c.requires.2 w t in
-    let (more, apart) : SetOf (DoneOn g (take (k + 1) is)) (suc g.terms) c.if-is_complete.set × Apart g is k = ⊎_elim
-    (λ v.
-    let p = subst (Complete g) h.same (c.is_complete.ensures.holds v.0.taken) in
-    let A = subst (λ i. SetOf (λ a. Mem a i.ahead) (suc g.terms) v.1.result) h.same v.1.ensures in (
-      subst (SetOf (DoneOn g (take (k + 1) is)) (suc g.terms)) (sym v.3) (done_more g is k set (omega arith) p A),
-      apart_here g is k set (omega arith) p A (λ a m. let b = ((state_in c.requires.1 c.args.s c.requires.2).items_in _ (mem_at is k no_item (omega arith))).ahead_in a m in omega arith) v.2.left,
-    ))
-    (λ v.
-    let no_item_law : Complete g (get_or is k no_item) → ⊥ = λ p. refutes c.is_complete.ensures v.0.left (subst (Complete g) (sym h.same) p) in (
-      subst (SetOf (DoneOn g (take (k + 1) is)) (suc g.terms)) (sym v.1) (done_same g is k set no_item_law),
-      λ p. absurd (no_item_law p),
-    ))
-    c.if-is_complete.branch in
+    let (more, apart) : SetOf (DoneOn g (take (k + 1) is)) (suc g.terms) c.if-is_complete.set × Apart g is k = elim c.if-is_complete.branch [
+      then-is_complete+else-set-ahead-ne0 v ↦
+          let p = subst (Complete g) h.same (c.is_complete.ensures.holds v.if-is_complete.true) in
+          let A = subst (λ i. SetOf (λ a. Mem a i.ahead) (suc g.terms) v.set_at-ahead.result) h.same v.set_at-ahead.ensures in (
+            subst (SetOf (DoneOn g (take (k + 1) is)) (suc g.terms)) (sym v.set-is) (done_more g is k set (omega arith) p A),
+            apart_here g is k set (omega arith) p A
+                (λ a m.
+                let b = ((state_in c.requires.1 c.args.s c.requires.2).items_in _ (mem_at is k no_item (omega arith))).ahead_in a m in
+                omega arith)
+                v.if-set-ahead-ne0.false,
+          )
+    | else-is_complete v ↦
+          let no_item_law : Complete g (get_or is k no_item) → ⊥ =
+              λ p. refutes c.is_complete.ensures v.if-is_complete.false (subst (Complete g) (sym h.same) p) in (
+            subst (SetOf (DoneOn g (take (k + 1) is)) (suc g.terms)) (sym v.set-is) (done_same g is k set no_item_law),
+            λ p. absurd (no_item_law p),
+          )
+    ] in
     (walk_on w t h c.next_item-at.ensures, more, below_more _ _ all apart)
 
 pub returns : goal.returns

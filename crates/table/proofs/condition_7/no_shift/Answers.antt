@@ -12,6 +12,7 @@ use Rattle.table.specs.Items.Held.{go_walk_here, go_walk_first, go_walk_on}
 use Rattle.table.specs.Members.{mem_at, all_mem}
 use Rattle.table.specs.Places.{table_in, no_go}
 use Rattle.table.proofs.condition_7.no_shift.Goals as goal
+use Rattle.table.proofs.condition_7.no_shift.Goals.{then-x-sizes+else-has, else-x-sizes}
 
 pub loop-k-init : goal.loop-k-init
 loop-k-init c = (go_walk_first c.go_count-n.ensures c.first_go-at.ensures, below_none _)
@@ -51,9 +52,11 @@ loop-k-preserved c = let (w, all) = c.loop-k.invariant in
     let h = go_walk_here c.requires.0 c.args.s c.requires.1 w t in
     let x = c.go_on-x.ensures ∙ ap (λ (l : Go). l.on) h.same in (
       go_walk_on w t,
-      below_more _ _ all (λ l i. ⊎_elim
-          (λ v. eqb-false _ _ (sym v.1.ensures ∙ v.2.left) (subst (In c.args.set) (sym x) i))
-          (λ v. let q = v.left in omega arith) c.if-x-sizes.branch),
+      below_more _ _ all (λ l i. elim c.if-x-sizes.branch [
+        then-x-sizes+else-has v ↦
+            eqb-false _ _ (sym v.has.ensures ∙ v.if-has.false) (subst (In c.args.set) (sym x) i)
+      | else-x-sizes v ↦ let q = v.if-x-sizes.false in omega arith
+      ]),
     )
 
 pub returns : goal.returns

@@ -1,6 +1,6 @@
-use Prim.Native.Nat.{◌+◌, ◌*◌, ◌<◌}
+use mathlib.Core.List.{List}
+use Prim.Native.Nat.{ℕ, ◌+◌, ◌*◌, ◌<◌}
 use native.Mathlib.Omega.{arith}
-use mathlib.Core.Logic.{⊎_elim}
 use mathlib.Core.Path.{◌∙◌, sym, subst}
 use lib.ListN.{get_or}
 use Rattle.lines.specs.Limits.{max_terms, max_states}
@@ -9,6 +9,7 @@ use Rattle.table.specs.Items.{item_in}
 use Rattle.table.proofs.Columns.{in_rows, in_size, walk_none, walk_more, walk_all}
 use Rattle.table.proofs.Actions.{by_token, tokens_first, note_one, skip_one}
 use Rattle.table.proofs.entries.note_set.Goals as goal
+use Rattle.table.proofs.entries.note_set.Goals.{then-a-terms, else-a-terms}
 
 pub item_rule-rule-requires : goal.item_rule-rule-requires
 item_rule-rule-requires c = c.requires.0
@@ -64,14 +65,20 @@ loop-j-preserved c = let i = item_in c.args.table.now c.args.at in
     let e = c.number-a.ensures ∙ c.requires.0.line.at_ahead c.loop-j.j (omega arith) in (
       n,
       omega arith,
-      ⊎_elim
-          (λ (branch, arg, note, a, b, same).
-          let q : c.number-a.result * c.args.m + c.args.s < c.args.terms * c.args.m = in_rows branch.taken c.requires.3 in
-          let l = col.long in
-          let g = c.requires.5 in
-          walk_more _ _ _ (by_token i.rule) i.ahead 0 (omega arith) col (note_one e c.item_rule-rule.ensures c.requires.3 branch.taken (omega arith) (same ∙ note.ensures)))
-          (λ (branch, same). walk_more _ _ _ (by_token i.rule) i.ahead 0 (omega arith) col (subst (λ l. Column c.args.terms c.args.m c.args.s (λ a. by_token i.rule a (get_or i.ahead c.loop-j.j 0)) c.loop-j.acts l) (sym same) (skip_one i.rule e branch.left)))
-          c.if-a-terms.branch,
+      elim c.if-a-terms.branch [
+        then-a-terms w ↦
+            let t = w.if-a-terms.true in
+            let q : c.number-a.result * c.args.m + c.args.s < c.args.terms * c.args.m = in_rows t c.requires.3 in
+            let l = col.long in
+            let g = c.requires.5 in
+            walk_more _ _ _ (by_token i.rule) i.ahead 0 (omega arith) col
+                (note_one e c.item_rule-rule.ensures c.requires.3 t (omega arith) (w.acts-is ∙ w.note.ensures))
+      | else-a-terms w ↦
+            let same = λ (l : List ℕ). Column c.args.terms c.args.m c.args.s
+                (λ a. by_token i.rule a (get_or i.ahead c.loop-j.j 0)) c.loop-j.acts l in
+            walk_more _ _ _ (by_token i.rule) i.ahead 0 (omega arith) col
+                (subst same (sym w.acts-is) (skip_one i.rule e w.if-a-terms.false))
+      ],
     )
 
 pub returns : goal.returns

@@ -1,12 +1,12 @@
 use Prim.Native.Nat.{◌+◌, ◌<◌}
 use native.Mathlib.Omega.{arith}
-use mathlib.Core.Logic.{⊎_elim}
 use mathlib.Core.Path.{◌≡◌, sym, subst}
 use borrow.Author.Rules.{rules}
 use Rattle.table.specs.Places.{grammar_in}
 use Rattle.table.specs.Firsts.{FirstGrown}
 use Rattle.table.proofs.FirstSets.{first-none, first_more, first_less}
 use Rattle.table.proofs.firsts.first_round.Goals as goal
+use Rattle.table.proofs.firsts.first_round.Goals.{then-first_by, else-first_by}
 
 pub loop-r-init : goal.loop-r-init
 loop-r-init c = (omega arith, first-none (grammar_in c.args.table.now) c.args.rows.now c.requires.2)
@@ -21,12 +21,16 @@ loop-r-preserved c = let g = grammar_in c.args.table.now in
     let l = c.loop-r-test.true in
     let new = c.first_by.new.rows in (
       omega arith,
-      ⊎_elim
-          (λ w. subst (FirstGrown g (λ q. q < j + 1) rows new) (sym w.1)
-          (first_more g rows c.loop-r.invariant.1 (subst (FirstGrown g (λ q. q ≡ j) c.loop-r.rows new) w.0.taken c.first_by.ensures)))
-          (λ w. subst (FirstGrown g (λ q. q < j + 1) rows new) (sym w.1)
-          (first_less g rows c.loop-r.invariant.1 (subst (FirstGrown g (λ q. q ≡ j) c.loop-r.rows new) w.0.left c.first_by.ensures)))
-          c.if-first_by.branch,
+      elim c.if-first_by.branch [
+        then-first_by w ↦
+            subst (FirstGrown g (λ q. q < j + 1) rows new) (sym w.grew-is)
+                (first_more g rows c.loop-r.invariant.1
+                  (subst (FirstGrown g (λ q. q ≡ j) c.loop-r.rows new) w.if-first_by.true c.first_by.ensures))
+      | else-first_by w ↦
+            subst (FirstGrown g (λ q. q < j + 1) rows new) (sym w.grew-is)
+                (first_less g rows c.loop-r.invariant.1
+                  (subst (FirstGrown g (λ q. q ≡ j) c.loop-r.rows new) w.if-first_by.false c.first_by.ensures))
+      ],
     )
 
 pub returns : goal.returns

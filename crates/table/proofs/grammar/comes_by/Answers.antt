@@ -15,6 +15,7 @@ use Rattle.table.specs.Members.{mem_at}
 use Rattle.table.specs.declared.Notion.{Notion}
 use Rattle.table.proofs.Notions.{one_list, with-is, stays, comes_grows}
 use Rattle.table.proofs.grammar.comes_by.Goals as goal
+use Rattle.table.proofs.grammar.comes_by.Goals.{then-b-c+else-not-member, else-b-c}
 
 pub returns-then-right_count-ne1 : goal.returns-then-right_count-ne1
 returns-then-right_count-ne1 c = let g = grammar_in c.args.table.now in
@@ -55,4 +56,9 @@ returns c = let g = grammar_in c.args.table.now in
     let e : ru.right ≡ c.right_symbol-b.result ∷ [] = one_list ru.right (sym n ∙ c.if-right_count-ne1.false) ∙ ap (λ (x : ℕ). x ∷ []) (sym y) in
     subst (Grows g (Notion.ComesTo c.args.c) ru c.args.set) (with-is c.args.set c.with.ensures t c.left_of-a.ensures)
     (comes_grows g (held_formed H) (held_mem H c.args.r c.requires.1) c.requires.2 c.right_symbol-b.result e
-    (⊎_elim (λ w. inr (ap (λ (n : ℕ). member n c.args.set c.right_symbol-b.result) (sym t) ∙ sym w.1.ensures ∙ not-false _ w.2.left)) (λ w. inl w.left) c.if-b-c.branch))
+    (elim c.if-b-c.branch [
+      then-b-c+else-not-member w ↦
+          inr (ap (λ (n : ℕ). member n c.args.set c.right_symbol-b.result) (sym t) ∙
+            sym w.member.ensures ∙ w.if-not-member.false)
+    | else-b-c w ↦ inl w.if-b-c.false
+    ]))

@@ -2,7 +2,6 @@ use Prim.Native.Nat.{◌+◌}
 use native.Mathlib.Nat.{le_refl}
 use native.Mathlib.Omega.{arith}
 use mathlib.Core.Bool.{true}
-use mathlib.Core.Logic.{⊎_elim}
 use mathlib.Core.Path.{◌≡◌, ◌∙◌, sym, subst}
 use lib.ListN.{length}
 use borrow.Author.Count.{below_none}
@@ -13,6 +12,7 @@ use Rattle.table.specs.Members.{mem_at}
 use Rattle.table.specs.Notions.{member}
 use Rattle.table.proofs.Notions.{with-is, part_means, Reaching, reaching_more, reaching_kind, reaching_all}
 use Rattle.table.proofs.grammar.with_right.Goals as goal
+use Rattle.table.proofs.grammar.with_right.Goals.{then-sizes-x, else-sizes-x}
 
 pub loop-j-init : goal.loop-j-init
 loop-j-init c = (omega arith, record { part = c.requires.2; grows = le_refl _; has = below_none _ })
@@ -40,11 +40,17 @@ loop-j-preserved c = let g = grammar_in c.args.table.now in
     let M = held_mem H c.args.r c.requires.1 in
     let a = part_means g c.requires.2 ru.left (subst (λ n. member n c.args.set ru.left ≡ true) t c.requires.3) in (
       omega arith,
-      ⊎_elim
-          (λ w. let l = w.0.taken in subst (λ s. Reaching g ru.right c.args.set s (j + 1)) (with-is c.loop-j.out w.1.ensures t x ∙ sym w.2)
-          (reaching_more g ru c.args.set (held_formed H) M a c.loop-j.invariant.1 (omega arith) (omega arith)))
-          (λ w. let l = w.0.left in subst (λ s. Reaching g ru.right c.args.set s (j + 1)) (sym w.1) (reaching_kind g ru c.args.set c.loop-j.invariant.1 (omega arith)))
-          c.if-sizes-x.branch,
+      elim c.if-sizes-x.branch [
+        then-sizes-x w ↦
+            let l = w.if-sizes-x.true in
+            subst (λ s. Reaching g ru.right c.args.set s (j + 1))
+                (with-is c.loop-j.out w.with-out.ensures t x ∙ sym w.out-is)
+                (reaching_more g ru c.args.set (held_formed H) M a c.loop-j.invariant.1 (omega arith) (omega arith))
+      | else-sizes-x w ↦
+            let l = w.if-sizes-x.false in
+            subst (λ s. Reaching g ru.right c.args.set s (j + 1)) (sym w.out-is)
+                (reaching_kind g ru c.args.set c.loop-j.invariant.1 (omega arith))
+      ],
     )
 
 pub returns : goal.returns
