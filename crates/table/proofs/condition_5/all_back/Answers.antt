@@ -31,7 +31,11 @@ returns-then-not-comes_back c = let w = c.loop-k.invariant.0 in
     let u = c.loop-k-test.true in
     let t = table_in c.args.table.now in
     let h = walk_here c.requires.1 c.args.to c.requires.5 w u in
-    (every_no (Back t c.args.s c.args.x) (state_at t c.args.to).items no_item c.loop-k.k (omega arith) h.same c.comes_back.ensures (c.if-not-comes_back.true), λ z. absurd (false≢true z))
+    record {
+      tells = every_no (Back t c.args.s c.args.x) (state_at t c.args.to).items no_item c.loop-k.k (omega arith) h.same
+          c.comes_back.ensures c.if-not-comes_back.true;
+      marked_at = λ z. absurd (false≢true z);
+    }
 
 pub mark-requires : goal.mark-requires
 mark-requires c = let h = walk_here c.requires.1 c.args.to c.requires.5 c.loop-k.invariant.0 c.loop-k-test.true in
@@ -68,4 +72,7 @@ returns c = let (w, all, marked) = c.loop-k.invariant in
     let t = table_in c.args.table.now in
     let is = (state_at t c.args.to).items in
     let l = c.loop-k-test.false in
-    (every_yes (Back t c.args.s c.args.x) is no_item c.loop-k.k (omega arith) all, λ z. marks_all From is no_item c.loop-k.k (omega arith) marked)
+    record {
+      tells = every_yes (Back t c.args.s c.args.x) is no_item c.loop-k.k (omega arith) all;
+      marked_at = λ z. marks_all From is no_item c.loop-k.k (omega arith) marked;
+    }

@@ -32,7 +32,11 @@ returns-then-not-led c = let w = c.loop-k.invariant.0 in
     let u = c.loop-k-test.true in
     let t = table_in c.args.table.now in
     let h = go_walk_here c.requires.1 c.args.s c.requires.3 w u in
-    (every_no (Led t c.args.s) (state_at t c.args.s).gos no_go c.loop-k.k (omega arith) h.same c.led.ensures.0 (c.if-not-led.true), λ z. absurd (false≢true z))
+    record {
+      tells = every_no (Led t c.args.s) (state_at t c.args.s).gos no_go c.loop-k.k (omega arith) h.same
+          c.led.ensures.tells c.if-not-led.true;
+      marked_at = λ z. absurd (false≢true z);
+    }
 
 pub overflow_add-at : goal.overflow_add-at
 overflow_add-at c = let h = (go_walk_here c.requires.1 c.args.s c.requires.3 c.loop-k.invariant.0 c.loop-k-test.true).inside in omega arith
@@ -52,8 +56,8 @@ loop-k-preserved c = let (w, all, marked) = c.loop-k.invariant in
     let h = go_walk_here c.requires.1 c.args.s c.requires.3 w u in
     let b = c.if-not-led.false in (
       go_walk_on w u,
-      below_more _ _ all (every_here (Led t c.args.s) gos no_go k h.same c.led.ensures.0 b),
-      marks_more (λ (l : Go) (x : ℕ). MetIn t c.args.s l.to x) gos no_go k h.same marked (c.led.ensures.1 b),
+      below_more _ _ all (every_here (Led t c.args.s) gos no_go k h.same c.led.ensures.tells b),
+      marks_more (λ (l : Go) (x : ℕ). MetIn t c.args.s l.to x) gos no_go k h.same marked (c.led.ensures.marked_at b),
     )
 
 pub returns : goal.returns
@@ -63,4 +67,7 @@ returns c = let (w, all, marked) = c.loop-k.invariant in
     let t = table_in c.args.table.now in
     let gos = (state_at t c.args.s).gos in
     let l = c.loop-k-test.false in
-    (every_yes (Led t c.args.s) gos no_go c.loop-k.k (omega arith) all, λ z. marks_all (λ (l : Go) (x : ℕ). MetIn t c.args.s l.to x) gos no_go c.loop-k.k (omega arith) marked)
+    record {
+      tells = every_yes (Led t c.args.s) gos no_go c.loop-k.k (omega arith) all;
+      marked_at = λ z. marks_all (λ (l : Go) (x : ℕ). MetIn t c.args.s l.to x) gos no_go c.loop-k.k (omega arith) marked;
+    }

@@ -17,7 +17,7 @@ keeps_5-requires c = let i = c.loop-s.invariant in
 pub returns-then-not-keeps_5 : goal.returns-then-not-keeps_5
 returns-then-not-keeps_5 c = let e = c.requires.1.states_are in
     let l = c.loop-s-test.true in
-    broken_told c.loop-s.invariant.1 (omega arith) c.keeps_5.ensures.0 (c.if-not-keeps_5.true)
+    broken_told c.loop-s.invariant.1 (omega arith) c.keeps_5.ensures.tells c.if-not-keeps_5.true
 
 pub overflow_add-s : goal.overflow_add-s
 overflow_add-s c = let t = c.loop-s-test.true in let e = c.requires.1.states_are in let m = c.requires.1.in_range.state_count.1 in omega arith
@@ -30,9 +30,9 @@ loop-s-preserved c = let l = c.loop-s-test.true in
     let b = c.if-not-keeps_5.false in
     let k = c.keeps_5.ensures in (
       omega arith,
-      below_more _ _ c.loop-s.invariant.1 (k.0.holds b),
-      λ g. spots_next c.requires.1 g refl (k.1 b).0,
-      marks-step (k.1 b).1,
+      below_more _ _ c.loop-s.invariant.1 (k.tells.holds b),
+      λ g. spots_next c.requires.1 g refl (k.spots b).0,
+      marks-step (k.spots b).1,
     )
 
 pub returns : goal.returns

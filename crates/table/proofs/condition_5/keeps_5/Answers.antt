@@ -17,18 +17,24 @@ pub all_led-requires : goal.all_led-requires
 all_led-requires c = let e = c.requires.1.states_are in
     let l = c.requires.3 in
     let n = c.note_items.ensures in
-    (c.requires.0, c.requires.1, c.requires.2, c.requires.3, c.requires.4, n.1 (n.0.shows (c.requires.2 2 c.args.s (lit< tt) (omega arith))), c.requires.6.long)
+    let spots = n.spots (n.tells.shows (c.requires.2 2 c.args.s (lit< tt) (omega arith))) in
+    (c.requires.0, c.requires.1, c.requires.2, c.requires.3, c.requires.4, spots, c.requires.6.long)
 
 pub returns-then-not-all_led : goal.returns-then-not-all_led
 returns-then-not-all_led c = let t = table_in c.args.table.now in
     let s = c.args.s in
     let e = c.requires.1.states_are in
     let l = c.requires.3 in
-    (tells_no (λ h. refutes {P = (l : Go) → Mem l (state_at t s).gos → Led t s l} c.all_led.ensures.0 (c.if-not-all_led.true) (moves_led t s (c.requires.2 1 0 (lit< tt) (omega arith)) h)), λ z. absurd (false≢true z))
+    record {
+      tells = tells_no (λ h. refutes {P = (l : Go) → Mem l (state_at t s).gos → Led t s l} c.all_led.ensures.tells
+        c.if-not-all_led.true (moves_led t s (c.requires.2 1 0 (lit< tt) (omega arith)) h));
+      spots = λ z. absurd (false≢true z);
+    }
 
 pub all_move-requires : goal.all_move-requires
 all_move-requires c = let b = c.if-not-all_led.false in
-    (c.requires.0, c.requires.1, c.requires.2, c.requires.3, c.all_led.ensures.0.holds b, marks_tell c.requires.6 (c.all_led.ensures.1 b))
+    (c.requires.0, c.requires.1, c.requires.2, c.requires.3, c.all_led.ensures.tells.holds b,
+      marks_tell c.requires.6 (c.all_led.ensures.marked_at b))
 
 pub returns : goal.returns
 returns c = let t = table_in c.args.table.now in
@@ -38,7 +44,10 @@ returns c = let t = table_in c.args.table.now in
     let l = c.requires.3 in
     let n = c.note_items.ensures in
     let b = c.if-not-all_led.false in
-    let led = c.all_led.ensures in (
-      tells_as (λ f. onward_led t s (ranges_fit t H.in_range) (λ g k. c.requires.2 1 g.to (lit< tt) ((state_in H s l).gos_in g k).to_in) f (led.0.holds b)) (moves_onward t s) c.all_move.ensures,
-      λ z. (n.1 (n.0.shows (c.requires.2 2 s (lit< tt) (omega arith))), marks_next c.requires.6 (led.1 b)),
-    )
+    let led = c.all_led.ensures in record {
+      tells = tells_as
+          (λ f. onward_led t s (ranges_fit t H.in_range)
+            (λ g k. c.requires.2 1 g.to (lit< tt) ((state_in H s l).gos_in g k).to_in) f (led.tells.holds b))
+          (moves_onward t s) c.all_move.ensures;
+      spots = λ z. (n.spots (n.tells.shows (c.requires.2 2 s (lit< tt) (omega arith))), marks_next c.requires.6 (led.marked_at b));
+    }

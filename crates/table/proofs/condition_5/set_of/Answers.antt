@@ -22,7 +22,7 @@ pub returns-then-at-first_item : goal.returns-then-at-first_item
 returns-then-at-first_item c = let ns = c.args.table.now in
     let t = table_in ns in
     let s = c.args.s in
-    let p = c.spot_of.ensures in
+    let p = c.spot_of-at.ensures in
     let f = c.first_item.ensures in
     let l = c.if-at-first_item.true in
     set_none (λ a. (i : Item) × InState t s i × Agrees c.args.rule c.args.dot i × Mem a i.ahead) (suc t.grammar.terms)
@@ -34,7 +34,7 @@ returns-then-at-first_item c = let ns = c.args.table.now in
     omega arith)
 
 pub set_at-requires : goal.set_at-requires
-set_at-requires c = let p = c.spot_of.ensures in
+set_at-requires c = let p = c.spot_of-at.ensures in
     let f = c.first_item.ensures in
     let l = c.if-at-first_item.false in
     let (j, g, u, v) = c.requires.4.found (core_of c.args.rule c.args.dot) (omega arith) in
@@ -45,13 +45,13 @@ returns c = let s = c.args.s in
     let t = table_in c.args.table.now in
     let H = c.requires.0 in
     let is = (state_at t s).items in
-    let p = c.spot_of.ensures in
+    let p = c.spot_of-at.ensures in
     let f = c.first_item.ensures in
     let l = c.if-at-first_item.false in
     let m = H.states_are in
     let b = c.requires.2 in
     let (j, n, u, v) = c.requires.4.found (core_of c.args.rule c.args.dot) (omega arith) in
-    let h = item_here H s b j n c.spot_of.result (p ∙ v) in
+    let h = item_here H s b j n c.spot_of-at.result (p ∙ v) in
     let k = mem_at is j no_item n in
     let g : Agrees c.args.rule c.args.dot (get_or is j no_item) = same_core c.requires.5.1 (core_in t H.in_range (get_or is j no_item) ((state_in H s b).items_in (get_or is j no_item) k)).1 u in
     set-as c.set_at.ensures

@@ -48,7 +48,11 @@ returns-then-first-spot_of c = let ns = c.args.table.now in
     let b = each k (omega arith) in
     let f = c.first_item-first.ensures in
     let l = c.if-first-spot_of.true in
-    (tells_no (λ kept. twice_spot spots c.spot_of.ensures r d (λ j g. each j (omega arith)) (omega arith) (omega arith) (all_lone (table_in ns) s kept k (omega arith))), λ z. absurd (false≢true z))
+    record {
+      tells = tells_no (λ kept. twice_spot spots c.spot_of.ensures r d (λ j g. each j (omega arith)) (omega arith) (omega arith)
+        (all_lone (table_in ns) s kept k (omega arith)));
+      spots = λ z. absurd (false≢true z);
+    }
 
 pub note_spot-requires : goal.note_spot-requires
 note_spot-requires c = let ns = c.args.table.now in
@@ -96,4 +100,7 @@ returns c = let ns = c.args.table.now in
     let p = w.passed in
     let t = c.loop-k-test.false in
     let e : c.loop-k.k ≡ length (state_at (table_in ns) s).items = omega arith in
-    (tells_yes (lone_all (table_in ns) s (λ j l. all j (omega arith))), λ z. subst (λ (k : ℕ). Spots ns c.args.state_at.now s k c.loop-k.spots) e spots)
+    record {
+      tells = tells_yes (lone_all (table_in ns) s (λ j l. all j (omega arith)));
+      spots = λ z. subst (λ (k : ℕ). Spots ns c.args.state_at.now s k c.loop-k.spots) e spots;
+    }
