@@ -5,8 +5,6 @@ use mathlib.Core.Path.{◌≡◌, refl, sym, ap, subst}
 use mathlib.Core.Bool.{true, false}
 use mathlib.Core.List.{List, [], ◌∷◌}
 use lib.ListN.{length}
-use types.Run.{OneOf, miss}
-use denote.Enum.Declared.{tag_of}
 use Rattle.theory.proofs.Basics.{both}
 use Rattle.lines.specs.Basics.{impossible}
 use Rattle.lines.specs.Limits.{max_numbers, max_states}
@@ -20,7 +18,6 @@ use Rattle.lines.specs.declared.shape.Due.{Due}
 use Rattle.lines.specs.declared.shape.Due.TheVariants.{Terms, Nonterms, Rules, Rule, States, State, Item, Go, End}
 use Rattle.lines.specs.declared.shape.Shape.{Shape}
 use Rattle.lines.specs.declared.line.Accepted.TheVariants.{Next}
-use Rattle.lines.specs.contracts.shape.Due.{the_type}
 use Rattle.table.specs.declared.Sizes.{Sizes}
 use Rattle.table.specs.Lined.{sizes_of}
 use Rattle.table.specs.States.{in_state, Readable}
@@ -78,14 +75,14 @@ states_heading s zero h = impossible (omega arith)
 states_heading s (suc m) h = record { before = refl }
 
 -- a line that fits keeps the shape before the states' lines, as long as it is not a state line
-pub next_heading : {s : Shape} → Heading s → OneOf (0 ∷ 1 ∷ 2 ∷ 3 ∷ 4 ∷ 6 ∷ 7 ∷ 8 ∷ []) (tag_of the_type s.due) → (lengths xs : List ℕ) (s' : Shape) →
+pub next_heading : {s : Shape} → Heading s → (s.due ≡ State → ⊥) → (lengths xs : List ℕ) (s' : Shape) →
     accepted s lengths xs ≡ Next s' → Heading s'
 unfolding next_shape fits_due
 next_heading {s} h n lengths xs s' a =
     let (f, e) = next_fit s lengths xs s' a in
     subst Heading e (go s.due refl h.before n f)
   where
-    go : (w : Due) → s.due ≡ w → Before s w → OneOf (0 ∷ 1 ∷ 2 ∷ 3 ∷ 4 ∷ 6 ∷ 7 ∷ 8 ∷ []) (tag_of the_type w) → fits_shape s lengths xs ≡ true →
+    go : (w : Due) → s.due ≡ w → Before s w → (w ≡ State → ⊥) → fits_shape s lengths xs ≡ true →
         Heading (next_shape s xs)
     go Terms e b k f = rw (e, next_shape) (record { before = tt })
     go Nonterms e b k f = rw (e, next_shape) (record { before = tt })
@@ -94,7 +91,7 @@ next_heading {s} h n lengths xs s' a =
     go States e b k f =
         let g : fits_one max_states xs ≡ true = rw (e, fits_due) at f in
         rw (e, next_shape) (states_heading s (at xs 0) (within-says 1 max_states (at xs 0) (both (counts 1 xs) (within 1 max_states (at xs 0)) g).1).0)
-    go State e b k f = absurd (miss (0 ∷ 1 ∷ 2 ∷ 3 ∷ 4 ∷ 6 ∷ 7 ∷ 8 ∷ []) 5 tt k)
+    go State e b k f = absurd (k refl)
     go Item e b k f = absurd b
     go Go e b k f = absurd b
     go End e b k f = absurd b

@@ -5,8 +5,6 @@ use mathlib.Core.Path.{◌≡◌, refl, sym, ap, ◌∙◌}
 use mathlib.Core.Bool.{Bool, true, false, false≢true, ◌&&◌}
 use mathlib.Core.List.{List, [], ◌∷◌}
 use lib.ListN.{length}
-use types.Run.{OneOf, miss}
-use denote.Enum.Declared.{tag_of}
 use Rattle.lines.specs.Lines.{Lined, read_numbers}
 use Rattle.lines.specs.Limits.{max_terms, max_nonterms, max_states}
 use Rattle.table.specs.declared.Read.{Read}
@@ -15,14 +13,14 @@ use Rattle.table.specs.Lined.{Reads, Fine}
 use Rattle.table.specs.Places.{table_in}
 use Rattle.table.specs.Places.Step.{held_terms, held_nonterms}
 use Rattle.table.specs.LookUps.{LookUps, Looked, fit, room_for, roomy}
-use Rattle.table.specs.contracts.Read.{the_type}
 
 -- lines that do not fit
-unfit_lines : (ns rules states : List ℕ) (k : Read) → OneOf (0 ∷ 1 ∷ []) (tag_of the_type k) → Reads ns rules states k → fit (read_numbers ns) ≡ false
+unfit_lines : (ns rules states : List ℕ) (k : Read) → ((z : Sizes) → k ≡ Read.Fits z → ⊥) → Reads ns rules states k →
+    fit (read_numbers ns) ≡ false
 unfolding fit
 unfit_lines ns rules states Read.TooLong h e = ap fit e
 unfit_lines ns rules states (Read.Unfit n) h e = ap fit e
-unfit_lines ns rules states (Read.Fits z) h e = absurd (miss (0 ∷ 1 ∷ []) 2 tt h)
+unfit_lines ns rules states (Read.Fits z) h e = absurd (h z refl)
 
 -- nothing is changed
 unchanged : {ns acts go lens lefts : List ℕ} → (fit (read_numbers ns) && roomy (table_in ns) (length acts) (length go)) ≡ false →
@@ -30,7 +28,7 @@ unchanged : {ns acts go lens lefts : List ℕ} → (fit (read_numbers ns) && roo
 unchanged e = record { told = sym e; built = λ q. absurd (false≢true q); kept = λ q. (refl, refl, refl, refl) }
 
 -- so it is where the lines do not fit
-pub told_unfit : {ns acts go lens lefts : List ℕ} (rules states : List ℕ) (k : Read) → OneOf (0 ∷ 1 ∷ []) (tag_of the_type k) → Reads ns rules states k →
+pub told_unfit : {ns acts go lens lefts : List ℕ} (rules states : List ℕ) (k : Read) → ((z : Sizes) → k ≡ Read.Fits z → ⊥) → Reads ns rules states k →
     Looked ns acts go lens lefts acts go lens lefts false
 told_unfit {ns} {acts} {go} rules states k h e = unchanged (ap (λ (b : Bool). b && roomy (table_in ns) (length acts) (length go)) (unfit_lines ns rules states k h e))
 

@@ -8,8 +8,6 @@ use mathlib.Core.List.{List, [], ◌∷◌}
 use lib.ListN.{length, get_or, set, take, drop, length-drop, length-set, drop_of_length-le}
 use lib.Seq.{drop-cons, drop-drop, length-take-le}
 use borrow.Author.Tests.{le-leb, lt-leb}
-use types.Run.{OneOf, miss}
-use denote.Enum.Declared.{tag_of}
 use Rattle.theory.specs.Table.{Table}
 use Rattle.lines.specs.Limits.{max_rules, max_states, max_numbers}
 use Rattle.lines.specs.Lines as L
@@ -23,7 +21,6 @@ use Rattle.lines.specs.declared.shape.Due.{Due}
 use Rattle.lines.specs.declared.shape.Due.TheVariants.{Terms, Nonterms, Rules, Rule, States, State, Item, Go, End}
 use Rattle.lines.specs.declared.shape.Shape.{Shape}
 use Rattle.lines.specs.declared.line.Accepted.TheVariants.{Next, Unfit}
-use Rattle.lines.specs.contracts.shape.Due.{the_type}
 use Rattle.table.specs.Places.{LineAt, found, table_in, RulesAt, StatesTo, StatesAt}
 use Rattle.table.specs.Lined.{rules_with, states_with, Notable, Fine}
 use Rattle.table.specs.Walk.{Stands, Drafted, Walked}
@@ -90,15 +87,15 @@ unfolding rules_with
 rule_noted s ra p e = rw (e, rules_with) refl
 
 -- any other line's is not
-pub other_rule : (s : Shape) (ra : List ℕ) (p : ℕ) → OneOf (0 ∷ 1 ∷ 2 ∷ 4 ∷ 5 ∷ 6 ∷ 7 ∷ 8 ∷ []) (tag_of the_type s.due) → rules_with s ra p ≡ ra
+pub other_rule : (s : Shape) (ra : List ℕ) (p : ℕ) → (s.due ≡ Rule → ⊥) → rules_with s ra p ≡ ra
 unfolding rules_with
 other_rule s ra p h = go s.due refl h
   where
-    go : (w : Due) → s.due ≡ w → OneOf (0 ∷ 1 ∷ 2 ∷ 4 ∷ 5 ∷ 6 ∷ 7 ∷ 8 ∷ []) (tag_of the_type w) → rules_with s ra p ≡ ra
+    go : (w : Due) → s.due ≡ w → (w ≡ Rule → ⊥) → rules_with s ra p ≡ ra
     go Terms e k = rw (e, rules_with) refl
     go Nonterms e k = rw (e, rules_with) refl
     go Rules e k = rw (e, rules_with) refl
-    go Rule e k = absurd (miss (0 ∷ 1 ∷ 2 ∷ 4 ∷ 5 ∷ 6 ∷ 7 ∷ 8 ∷ []) 3 tt k)
+    go Rule e k = absurd (k refl)
     go States e k = rw (e, rules_with) refl
     go State e k = rw (e, rules_with) refl
     go Item e k = rw (e, rules_with) refl
@@ -106,17 +103,17 @@ other_rule s ra p h = go s.due refl h
     go End e k = rw (e, rules_with) refl
 
 -- the places of the states are noted at a state line alone
-pub other_state : (s : Shape) (sa : List ℕ) (p : ℕ) → OneOf (0 ∷ 1 ∷ 2 ∷ 3 ∷ 4 ∷ 6 ∷ 7 ∷ 8 ∷ []) (tag_of the_type s.due) → states_with s sa p ≡ sa
+pub other_state : (s : Shape) (sa : List ℕ) (p : ℕ) → (s.due ≡ State → ⊥) → states_with s sa p ≡ sa
 unfolding states_with
 other_state s sa p h = go s.due refl h
   where
-    go : (w : Due) → s.due ≡ w → OneOf (0 ∷ 1 ∷ 2 ∷ 3 ∷ 4 ∷ 6 ∷ 7 ∷ 8 ∷ []) (tag_of the_type w) → states_with s sa p ≡ sa
+    go : (w : Due) → s.due ≡ w → (w ≡ State → ⊥) → states_with s sa p ≡ sa
     go Terms e k = rw (e, states_with) refl
     go Nonterms e k = rw (e, states_with) refl
     go Rules e k = rw (e, states_with) refl
     go Rule e k = rw (e, states_with) refl
     go States e k = rw (e, states_with) refl
-    go State e k = absurd (miss (0 ∷ 1 ∷ 2 ∷ 3 ∷ 4 ∷ 6 ∷ 7 ∷ 8 ∷ []) 5 tt k)
+    go State e k = absurd (k refl)
     go Item e k = rw (e, states_with) refl
     go Go e k = rw (e, states_with) refl
     go End e k = rw (e, states_with) refl

@@ -13,4 +13,4 @@ returns c = let s = c.args.s in
     let l = c.requires.5 in
     let last = c.gather.new in
     rows_tell (table_in c.args.table.now) s (held_formed c.requires.0) (state_in c.requires.1 s l).items_in c.requires.3 (c.requires.4 2 s (lit< tt) (omega arith))
-    last.1.1.1.1.1.1.1.0 last.1.1.1.1.1.1.1.1.0 c.requires.0.terms_are c.requires.0.rules_are c.gather.ensures.0 c.gather.ensures.1 c.all_given.ensures
+    last.asked last.given c.requires.0.terms_are c.requires.0.rules_are c.gather.ensures.0 c.gather.ensures.1 c.all_given.ensures

@@ -9,7 +9,7 @@ use Rattle.table.proofs.entries.fill_states.Goals as goal
 pub loop-s-init : goal.loop-s-init
 loop-s-init c = let a = c.clear in
     let g = c.clear-2 in
-    (omega arith, columns_none _ (a.ensures ∙ ap (λ (n : ℕ). replicate n 0) (sym a.auto.0)), columns_none _ (g.ensures ∙ ap (λ (n : ℕ). replicate n 0) (sym g.auto.0)))
+    (omega arith, columns_none _ (a.ensures ∙ ap (λ (n : ℕ). replicate n 0) (sym a.auto.entries)), columns_none _ (g.ensures ∙ ap (λ (n : ℕ). replicate n 0) (sym g.auto.entries)))
 
 pub note_acts-requires : goal.note_acts-requires
 note_acts-requires c = let l = c.loop-s.invariant.1.long in let g = c.requires.2 in (c.requires.0, c.requires.1, c.loop-s-test.true, omega arith)

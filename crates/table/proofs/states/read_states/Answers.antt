@@ -1,4 +1,5 @@
 use native.Mathlib.Omega.{arith}
+use borrow.Author.Tests.{not-true, not-false}
 use Rattle.table.proofs.StatesRead.{states_none, states-stop, states-more, states-over, states-fine, states-noted}
 use Rattle.table.proofs.states.read_states.Goals as goal
 
@@ -10,7 +11,7 @@ read_state-got-requires c = c.loop-s.invariant.readable
 
 pub overflow_add-result : goal.overflow_add-result
 overflow_add-result c = let i = c.loop-s.invariant in
-    let r = c.read_state-got.ensures.0.0 in
+    let r = c.read_state-got.ensures.reach.0 in
     let x = i.counted in
     let y = r.counted in
     let z = r.inside in
@@ -20,7 +21,7 @@ overflow_add-result c = let i = c.loop-s.invariant in
 pub returns-then-not-got : goal.returns-then-not-got
 returns-then-not-got c = let i = c.loop-s.invariant in
     λ ra h. (
-      states-stop i c.loop-s-test.true (c.if-not-got.true) c.read_state-got.ensures.0.1 h,
+      states-stop i c.loop-s-test.true (not-true _ c.if-not-got.true) c.read_state-got.ensures.reach.1 h,
       tt,
     )
 
@@ -43,7 +44,7 @@ bounds-state_at-s c = let l = c.loop-s-test.true in
 
 pub overflow_add-line : goal.overflow_add-line
 overflow_add-line c = let i = c.loop-s.invariant in
-    let r = c.read_state-got.ensures.0.0 in
+    let r = c.read_state-got.ensures.reach.0 in
     let x = i.counted in
     let y = r.counted in
     let z = r.inside in
@@ -61,8 +62,8 @@ loop-s-smaller c = let l = c.loop-s-test.true in omega arith
 
 pub loop-s-preserved : goal.loop-s-preserved
 loop-s-preserved c = let r = c.read_state-got.ensures in
-    let w = c.if-not-got.false in
-    states-more c.loop-s.invariant c.loop-s-test.true w r.0.0 r.0.1 (r.1 w)
+    let w = not-false _ c.if-not-got.false in
+    states-more c.loop-s.invariant c.loop-s-test.true w r.reach.0 r.reach.1 (r.sets_to w)
 
 pub returns-then-at-table : goal.returns-then-at-table
 returns-then-at-table c = let l = c.loop-s-test.false in

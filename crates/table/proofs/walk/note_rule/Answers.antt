@@ -14,4 +14,4 @@ pub returns-in-Rule : goal.returns-in-Rule
 returns-in-Rule c = sym (rule_noted c.args.s c.args.rule_at.now c.args.at c.in-Rule.is)
 
 pub returns-in_default : goal.returns-in_default
-returns-in_default c = sym (other_rule c.args.s c.args.rule_at.now c.args.at c.in_default.keys2)
+returns-in_default c = sym (other_rule c.args.s c.args.rule_at.now c.args.at c.in_default.not-Rule)

@@ -7,7 +7,7 @@ use Rattle.table.proofs.Heading.{Heading, start_heading, heading_missing, next_h
 use Rattle.table.proofs.walk.read_lines.Goals as goal
 
 pub returns-then-table-gt-MAX_NUMBERS : goal.returns-then-table-gt-MAX_NUMBERS
-returns-then-table-gt-MAX_NUMBERS c = (read_over c.args.table.now c.if-table-gt-MAX_NUMBERS.true, tt)
+returns-then-table-gt-MAX_NUMBERS c = record { reads = read_over c.args.table.now c.if-table-gt-MAX_NUMBERS.true; sets_read = tt }
 
 pub start-s-requires : goal.start-s-requires
 start-s-requires c = tt
@@ -36,15 +36,15 @@ pub returns-in-State : goal.returns-in-State
 returns-in-State c =
     let L = c.loop-at in
     let z = c.sizes_of in
-    c.read_states.ensures L.rule_at
-    (walk_states L.invariant.1 L.invariant.2 c.in-State.is z.result z.ensures)
+    let r = c.read_states.ensures L.rule_at (walk_states L.invariant.1 L.invariant.2 c.in-State.is z.result z.ensures) in
+    record { reads = r.0; sets_read = r.1 }
 
 pub returns-then-table-from : goal.returns-then-table-from
 returns-then-table-from c =
     let L = c.loop-at in
     let n = c.number-n.ensures in
     let t = c.if-table-from.true in
-    (walk_short L.invariant.1 c.loop-at-test.true L.invariant.0 (omega arith), tt)
+    record { reads = walk_short L.invariant.1 c.loop-at-test.true L.invariant.0 (omega arith); sets_read = tt }
 
 pub overflow_add-to : goal.overflow_add-to
 overflow_add-to c = let l = c.if-table-from.false in let t = c.loop-at-test.true in omega arith
@@ -72,11 +72,11 @@ returns-in_default-accepted c =
     let L = c.loop-at in
     let N = c.number-n in
     let n = N.ensures in
-    let l = c.if-table-from.false in (
-      walk_unfit L.invariant.1 c.loop-at-test.true L.invariant.0 (omega arith) _
-          (part_is c.args.table.now L.at N.result n) (sym c.accept-accepted.ensures.0 ∙ c.in_default-accepted.is),
-      tt,
-    )
+    let l = c.if-table-from.false in record {
+      reads = walk_unfit L.invariant.1 c.loop-at-test.true L.invariant.0 (omega arith) _
+          (part_is c.args.table.now L.at N.result n) (sym c.accept-accepted.ensures.value ∙ c.in_default-accepted.is);
+      sets_read = tt;
+    }
 
 pub note_rule-requires : goal.note_rule-requires
 note_rule-requires c =
@@ -102,16 +102,16 @@ pub loop-at-preserved : goal.loop-at-preserved
 loop-at-preserved c =
     let L = c.loop-at in
     let t = c.loop-at-test.true in
-    let k = c.in_default.keys2 in
+    let k = c.in_default.not-State in
     let N = c.number-n in
     let n = N.ensures in
     let l = c.if-table-from.false in
     let A = c.accept-accepted in
-    let a = sym A.ensures.0 ∙ c.in-Next.is in (
+    let a = sym A.ensures.value ∙ c.in-Next.is in (
       L.invariant.0,
       walk_is
           (walk_next L.invariant.1 t (omega arith) _ (part_is c.args.table.now L.at N.result n) _ a)
-          (ap (λ (x : ℕ). L.at + 1 + x) (sym n)) (sym c.renewed-s.ensures) (sym A.ensures.1) (sym c.note_rule.ensures)
+          (ap (λ (x : ℕ). L.at + 1 + x) (sym n)) (sym c.renewed-s.ensures) (sym A.ensures.lengths_after) (sym c.note_rule.ensures)
           (other_state L.s L.state_at L.at k),
       subst Heading (sym c.renewed-s.ensures) (next_heading L.invariant.2 k L.lengths _ _ a),
       L.invariant.3,
@@ -122,4 +122,4 @@ returns c =
     let L = c.loop-at in
     let l = c.loop-at-test.false in
     let i = L.invariant.1.inside in
-    (walk_missing L.invariant.1 (omega arith) L.invariant.0 (heading_missing L.invariant.2), tt)
+    record { reads = walk_missing L.invariant.1 (omega arith) L.invariant.0 (heading_missing L.invariant.2); sets_read = tt }
