@@ -14,7 +14,7 @@ use lib.ListN.{length, get_or}
 use borrow.Author.Count.{below_more, below_none}
 use lib.Pow.{pow-lt, pow_pos}
 use borrow.Author.Tests.{eqb-true, eq-eqb, leb-false, lt-leb, ltb-true, lt-ltb, le-ltb, ne_eqb}
-use Rattle.theory.specs.Grammar.{Rule, Grammar, start, Nonterm, Productive, Reachable, UnitTo, one, then, WellFormed}
+use Rattle.theory.specs.Grammar.{Rule, Grammar, start, Nonterm, Reachable, UnitTo, one, then, WellFormed}
 use Rattle.theory.proofs.Grammar.Closure.{productive_step, productive_closed, reachable_start, reachable_step, reachable_closed, unit_closed}
 use Rattle.theory.specs.Table.{rule_at, accept_rule}
 use Rattle.table.specs.declared.Notion.{Notion}

@@ -16,7 +16,6 @@ use Rattle.lines.specs.Limits.{max_states, max_numbers}
 use Rattle.lines.specs.Lines.{Lined, read_numbers}
 use Rattle.lines.specs.Lines.Fits.{at, fits_state}
 use Rattle.lines.specs.Ranges.Tests.{state_says}
-use Rattle.lines.specs.declared.shape.Due.TheVariants.{Item}
 use Rattle.lines.specs.declared.shape.Shape.{Shape}
 use Rattle.table.specs.declared.Sizes.{Sizes}
 use Rattle.table.specs.Aheads.{AllNoted}

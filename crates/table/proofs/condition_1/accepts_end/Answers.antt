@@ -1,7 +1,6 @@
 use native.Mathlib.Omega.{arith}
 use mathlib.Core.Path.{◌∙◌, ap, sym}
 use lib.ListN.{get_or}
-use borrow.Author.Tests.{not-false}
 use borrow.Author.Count.{below_none, below_more}
 use Rattle.theory.specs.Table.{Item, state_at}
 use Rattle.table.specs.Tests.Tell.{refutes, tells_yes, tells_no}
@@ -45,11 +44,11 @@ loop-k-preserved c = let (w, all) = c.loop-k.invariant in
     let h = walk_here c.requires.0 c.args.s c.requires.1 w t in (
       walk_on w t h c.next_item-at.ensures,
       below_more _ _ all (λ r. elim c.if-item_rule-sizes.branch [
-        then-item_rule-sizes+else-not-only_end v ↦
+        | then-item_rule-sizes+else-not-only_end v ↦
             ap (λ (i : Item). i.ahead) (sym h.same) ∙ v.only_end.ensures.holds v.if-not-only_end.false
-      | else-item_rule-sizes v ↦
+        | else-item_rule-sizes v ↦
             absurd (v.if-item_rule-sizes.false
-              (c.item_rule.ensures ∙ (ap (λ (i : Item). i.rule) h.same ∙ (r ∙ sym c.requires.0.rules_are))))
+            (c.item_rule.ensures ∙ (ap (λ (i : Item). i.rule) h.same ∙ (r ∙ sym c.requires.0.rules_are))))
       ]),
     )
 

@@ -3,7 +3,6 @@ use Prim.Native.Nat.{ℕ, ◌<◌, ◌-◌}
 use mathlib.Core.List.{[], ◌∷◌}
 use mathlib.Core.Path.{◌≡◌}
 use lib.ListN.{length, get_or}
-use borrow.Author.Rules.{rules}
 use Rattle.theory.specs.Table.{state_at}
 use Rattle.table.specs.Items.{AtItem}
 use Rattle.table.specs.Places.{table_in, no_item}

@@ -24,8 +24,7 @@ loop-s-smaller c = let t = c.loop-s-test.true in omega arith
 
 pub loop-s-preserved : goal.loop-s-preserved
 loop-s-preserved c = let l = c.loop-s-test.true in
-    let b = c.if-not-note_items.false in
-    (
+    let b = c.if-not-note_items.false in (
       omega arith,
       below_more _ _ c.loop-s.invariant.1 (c.note_items.ensures.tells.holds b),
       λ g. spots_next c.requires g refl (c.note_items.ensures.spots b),

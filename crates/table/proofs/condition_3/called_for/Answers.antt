@@ -23,10 +23,10 @@ returns c = let g = grammar_in c.args.table.now in
     let r = c.item_rule-r.ensures in
     tells_as (λ h z. inr (subst (LeftIn g c.args.set) r h))
     (λ h. ⊎_elim
-      (λ (a, b). absurd (elim c.if-s-eq0.branch [
-        then-s-eq0+else-k-eq0 w ↦ w.if-k-eq0.false b
+    (λ (a, b). absurd (elim c.if-s-eq0.branch [
+      | then-s-eq0+else-k-eq0 w ↦ w.if-k-eq0.false b
       | else-s-eq0 w ↦ w.if-s-eq0.false a
-      ]))
-      (λ k. subst (LeftIn g c.args.set) (sym r) k)
-      (h (omega arith)))
+    ]))
+    (λ k. subst (LeftIn g c.args.set) (sym r) k)
+    (h (omega arith)))
     c.left_in.ensures

@@ -2,7 +2,6 @@
 use Prim.Native.Nat.{suc, ◌-◌, ◌<◌}
 use native.Mathlib.Omega.{arith}
 use mathlib.Core.Path.{◌≡◌, sym, subst}
-use borrow.Author.Rules.{rules}
 use Rattle.theory.specs.Table.{rule_at}
 use Rattle.table.specs.Tests.Tell.{Tells, tells_no, tells_as, tells_eq}
 use Rattle.table.specs.Sets.{In, bit}

@@ -1,7 +1,6 @@
 -- `condition_4::all_given` meets its contract: the loop keeps that what is asked of the rules passed is given.
 use Prim.Native.Nat.{ℕ, ◌-◌, ◌≤◌, ◌<◌}
 use lib.ListN.{get_or}
-use borrow.Author.Rules.{rules}
 use Rattle.theory.specs.Table.{rule_at}
 use Rattle.table.specs.Places.{grammar_in}
 use Rattle.table.specs.Sets.{In}

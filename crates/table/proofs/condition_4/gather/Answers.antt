@@ -2,7 +2,6 @@ use Prim.Native.Nat.{ℕ, suc}
 use native.Mathlib.Omega.{arith}
 use mathlib.Core.Path.{◌≡◌, ◌∙◌, sym, ap, subst}
 use lib.ListN.{length, length-replicate}
-use borrow.Author.Rules.{rules}
 use Rattle.theory.specs.Table.{state_at}
 use Rattle.lines.specs.Limits.{max_nonterms, max_rules}
 use Rattle.table.specs.Condition4.{Asks, Gives, Asked, Given}

@@ -27,14 +27,19 @@ returns-then-not-all_led c = let t = table_in c.args.table.now in
     let l = c.requires.3 in
     record {
       tells = tells_no (λ h. refutes {P = (l : Go) → Mem l (state_at t s).gos → Led t s l} c.all_led.ensures.tells
-        c.if-not-all_led.true (moves_led t s (c.requires.2 1 0 (lit< tt) (omega arith)) h));
+          c.if-not-all_led.true (moves_led t s (c.requires.2 1 0 (lit< tt) (omega arith)) h));
       spots = λ z. absurd (false≢true z);
     }
 
 pub all_move-requires : goal.all_move-requires
-all_move-requires c = let b = c.if-not-all_led.false in
-    (c.requires.0, c.requires.1, c.requires.2, c.requires.3, c.all_led.ensures.tells.holds b,
-      marks_tell c.requires.6 (c.all_led.ensures.marked_at b))
+all_move-requires c = let b = c.if-not-all_led.false in (
+  c.requires.0,
+  c.requires.1,
+  c.requires.2,
+  c.requires.3,
+  c.all_led.ensures.tells.holds b,
+  marks_tell c.requires.6 (c.all_led.ensures.marked_at b),
+)
 
 pub returns : goal.returns
 returns c = let t = table_in c.args.table.now in
@@ -47,7 +52,7 @@ returns c = let t = table_in c.args.table.now in
     let led = c.all_led.ensures in record {
       tells = tells_as
           (λ f. onward_led t s (ranges_fit t H.in_range)
-            (λ g k. c.requires.2 1 g.to (lit< tt) ((state_in H s l).gos_in g k).to_in) f (led.tells.holds b))
+          (λ g k. c.requires.2 1 g.to (lit< tt) ((state_in H s l).gos_in g k).to_in) f (led.tells.holds b))
           (moves_onward t s) c.all_move.ensures;
       spots = λ z. (n.spots (n.tells.shows (c.requires.2 2 s (lit< tt) (omega arith))), marks_next c.requires.6 (led.marked_at b));
     }

@@ -1,7 +1,6 @@
 use Prim.Native.Nat.{suc, ◌+◌}
 use native.Mathlib.Omega.{arith}
 use mathlib.Core.List.{Memᴰ as Mem}
-use mathlib.Core.Logic.{⊎_elim}
 use mathlib.Core.Path.{sym, subst}
 use lib.ListN.{take, get_or}
 use borrow.Author.Count.{below_none, below_more}
@@ -60,7 +59,7 @@ loop-k-preserved c = let ns = c.args.table.now in
     let k = c.loop-k.k in
     let h = walk_here c.requires.1 c.args.s c.requires.2 w t in
     let (more, apart) : SetOf (DoneOn g (take (k + 1) is)) (suc g.terms) c.if-is_complete.set × Apart g is k = elim c.if-is_complete.branch [
-      then-is_complete+else-set-ahead-ne0 v ↦
+      | then-is_complete+else-set-ahead-ne0 v ↦
           let p = subst (Complete g) h.same (c.is_complete.ensures.holds v.if-is_complete.true) in
           let A = subst (λ i. SetOf (λ a. Mem a i.ahead) (suc g.terms) v.set_at-ahead.result) h.same v.set_at-ahead.ensures in (
             subst (SetOf (DoneOn g (take (k + 1) is)) (suc g.terms)) (sym v.set-is) (done_more g is k set (omega arith) p A),
@@ -70,9 +69,9 @@ loop-k-preserved c = let ns = c.args.table.now in
                 omega arith)
                 v.if-set-ahead-ne0.false,
           )
-    | else-is_complete v ↦
+      | else-is_complete v ↦
           let no_item_law : Complete g (get_or is k no_item) → ⊥ =
-              λ p. refutes c.is_complete.ensures v.if-is_complete.false (subst (Complete g) (sym h.same) p) in (
+          λ p. refutes c.is_complete.ensures v.if-is_complete.false (subst (Complete g) (sym h.same) p) in (
             subst (SetOf (DoneOn g (take (k + 1) is)) (suc g.terms)) (sym v.set-is) (done_same g is k set no_item_law),
             λ p. absurd (no_item_law p),
           )

@@ -1,6 +1,5 @@
 use Prim.Native.Nat.{◌<◌}
 use native.Mathlib.Omega.{arith}
-use mathlib.Core.Logic.{⊎_elim}
 use mathlib.Core.Path.{◌∙◌, ap, sym, subst}
 use lib.ListN.{get_or}
 use borrow.Author.Tests.{eqb-true, eqb-false}
@@ -53,9 +52,9 @@ loop-k-preserved c = let (w, all) = c.loop-k.invariant in
     let x = c.go_on-x.ensures ∙ ap (λ (l : Go). l.on) h.same in (
       go_walk_on w t,
       below_more _ _ all (λ l i. elim c.if-x-sizes.branch [
-        then-x-sizes+else-has v ↦
+        | then-x-sizes+else-has v ↦
             eqb-false _ _ (sym v.has.ensures ∙ v.if-has.false) (subst (In c.args.set) (sym x) i)
-      | else-x-sizes v ↦ let q = v.if-x-sizes.false in omega arith
+        | else-x-sizes v ↦ let q = v.if-x-sizes.false in omega arith
       ]),
     )
 

@@ -1,7 +1,6 @@
 -- `entries::fill_rules` meets its contract: the loop keeps that the entries of the rules passed are written, and all else is 0.
 use Prim.Native.Nat.{◌-◌, ◌≤◌}
 use lib.ListN.{length}
-use borrow.Author.Rules.{rules}
 use Rattle.theory.specs.Table.{rule_at}
 use Rattle.lines.specs.Limits.{max_rules}
 use Rattle.table.specs.Places.{grammar_in}

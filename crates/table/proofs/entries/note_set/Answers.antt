@@ -66,18 +66,18 @@ loop-j-preserved c = let i = item_in c.args.table.now c.args.at in
       n,
       omega arith,
       elim c.if-a-terms.branch [
-        then-a-terms w ↦
+        | then-a-terms w ↦
             let t = w.if-a-terms.true in
             let q : c.number-a.result * c.args.m + c.args.s < c.args.terms * c.args.m = in_rows t c.requires.3 in
             let l = col.long in
             let g = c.requires.5 in
             walk_more _ _ _ (by_token i.rule) i.ahead 0 (omega arith) col
-                (note_one e c.item_rule-rule.ensures c.requires.3 t (omega arith) (w.acts-is ∙ w.note.ensures))
-      | else-a-terms w ↦
+            (note_one e c.item_rule-rule.ensures c.requires.3 t (omega arith) (w.acts-is ∙ w.note.ensures))
+        | else-a-terms w ↦
             let same = λ (l : List ℕ). Column c.args.terms c.args.m c.args.s
-                (λ a. by_token i.rule a (get_or i.ahead c.loop-j.j 0)) c.loop-j.acts l in
+            (λ a. by_token i.rule a (get_or i.ahead c.loop-j.j 0)) c.loop-j.acts l in
             walk_more _ _ _ (by_token i.rule) i.ahead 0 (omega arith) col
-                (subst same (sym w.acts-is) (skip_one i.rule e w.if-a-terms.false))
+            (subst same (sym w.acts-is) (skip_one i.rule e w.if-a-terms.false))
       ],
     )
 

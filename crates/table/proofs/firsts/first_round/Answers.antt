@@ -1,7 +1,6 @@
 use Prim.Native.Nat.{◌+◌, ◌<◌}
 use native.Mathlib.Omega.{arith}
 use mathlib.Core.Path.{◌≡◌, sym, subst}
-use borrow.Author.Rules.{rules}
 use Rattle.table.specs.Places.{grammar_in}
 use Rattle.table.specs.Firsts.{FirstGrown}
 use Rattle.table.proofs.FirstSets.{first-none, first_more, first_less}
@@ -22,14 +21,14 @@ loop-r-preserved c = let g = grammar_in c.args.table.now in
     let new = c.first_by.new.rows in (
       omega arith,
       elim c.if-first_by.branch [
-        then-first_by w ↦
+        | then-first_by w ↦
             subst (FirstGrown g (λ q. q < j + 1) rows new) (sym w.grew-is)
-                (first_more g rows c.loop-r.invariant.1
-                  (subst (FirstGrown g (λ q. q ≡ j) c.loop-r.rows new) w.if-first_by.true c.first_by.ensures))
-      | else-first_by w ↦
+            (first_more g rows c.loop-r.invariant.1
+            (subst (FirstGrown g (λ q. q ≡ j) c.loop-r.rows new) w.if-first_by.true c.first_by.ensures))
+        | else-first_by w ↦
             subst (FirstGrown g (λ q. q < j + 1) rows new) (sym w.grew-is)
-                (first_less g rows c.loop-r.invariant.1
-                  (subst (FirstGrown g (λ q. q ≡ j) c.loop-r.rows new) w.if-first_by.false c.first_by.ensures))
+            (first_less g rows c.loop-r.invariant.1
+            (subst (FirstGrown g (λ q. q ≡ j) c.loop-r.rows new) w.if-first_by.false c.first_by.ensures))
       ],
     )
 

@@ -1,6 +1,5 @@
 -- `firsts::first_round` meets its contract: the loop keeps what the rules passed make of the rows.
 use Prim.Native.Nat.{◌-◌, ◌≤◌, ◌<◌}
-use borrow.Author.Rules.{rules}
 use Rattle.table.specs.Places.{grammar_in}
 use Rattle.table.specs.Firsts.{FirstGrown}
 use Rattle.table.proofs.firsts.first_round.Given as goal

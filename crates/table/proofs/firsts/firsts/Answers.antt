@@ -1,6 +1,6 @@
 use Prim.Native.Nat.{◌<◌}
 use native.Mathlib.Omega.{arith}
-use mathlib.Core.Bool.{false, false≢true}
+use mathlib.Core.Bool.{false≢true}
 use mathlib.Core.Path.{sym, subst}
 use Rattle.theory.specs.Table.{rule_at}
 use Rattle.table.specs.Places.Step.{held_formed, held_nonterms}

@@ -6,7 +6,6 @@ use mathlib.Core.Logic.{inl, inr, ⊎_elim}
 use mathlib.Core.List.{List, [], ◌∷◌}
 use mathlib.Core.Path.{◌≡◌, ◌∙◌, sym, subst, ap}
 use lib.ListN.{length, get_or}
-use borrow.Author.Tests.{not-false}
 use Rattle.theory.specs.Table.{rule_at}
 use Rattle.table.specs.Places.Step.{held_left, held_symbol, held_nonterms, held_formed, held_mem}
 use Rattle.table.specs.Places.{grammar_in}
@@ -57,8 +56,8 @@ returns c = let g = grammar_in c.args.table.now in
     subst (Grows g (Notion.ComesTo c.args.c) ru c.args.set) (with-is c.args.set c.with.ensures t c.left_of-a.ensures)
     (comes_grows g (held_formed H) (held_mem H c.args.r c.requires.1) c.requires.2 c.right_symbol-b.result e
     (elim c.if-b-c.branch [
-      then-b-c+else-not-member w ↦
+      | then-b-c+else-not-member w ↦
           inr (ap (λ (n : ℕ). member n c.args.set c.right_symbol-b.result) (sym t) ∙
-            sym w.member.ensures ∙ w.if-not-member.false)
-    | else-b-c w ↦ inl w.if-b-c.false
+          sym w.member.ensures ∙ w.if-not-member.false)
+      | else-b-c w ↦ inl w.if-b-c.false
     ]))

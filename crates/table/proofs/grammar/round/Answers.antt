@@ -1,6 +1,5 @@
 use native.Mathlib.Omega.{arith}
 use mathlib.Core.Path.{◌≡◌, subst}
-use borrow.Author.Rules.{rules}
 use Rattle.table.specs.Places.{grammar_in}
 use Rattle.table.specs.Notions.{GrownBy}
 use Rattle.table.proofs.Notions.{grown_none, grown_more}

@@ -1,6 +1,5 @@
 -- `grammar::round` meets its contract: the loop keeps what the rules passed make of the set.
 use Prim.Native.Nat.{◌≤◌, ◌-◌}
-use borrow.Author.Rules.{rules}
 use Rattle.table.specs.Places.{grammar_in}
 use Rattle.table.specs.Notions.{GrownBy}
 use Rattle.table.proofs.grammar.round.Given as goal

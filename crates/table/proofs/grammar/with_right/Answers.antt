@@ -41,15 +41,15 @@ loop-j-preserved c = let g = grammar_in c.args.table.now in
     let a = part_means g c.requires.2 ru.left (subst (λ n. member n c.args.set ru.left ≡ true) t c.requires.3) in (
       omega arith,
       elim c.if-sizes-x.branch [
-        then-sizes-x w ↦
+        | then-sizes-x w ↦
             let l = w.if-sizes-x.true in
             subst (λ s. Reaching g ru.right c.args.set s (j + 1))
-                (with-is c.loop-j.out w.with-out.ensures t x ∙ sym w.out-is)
-                (reaching_more g ru c.args.set (held_formed H) M a c.loop-j.invariant.1 (omega arith) (omega arith))
-      | else-sizes-x w ↦
+            (with-is c.loop-j.out w.with-out.ensures t x ∙ sym w.out-is)
+            (reaching_more g ru c.args.set (held_formed H) M a c.loop-j.invariant.1 (omega arith) (omega arith))
+        | else-sizes-x w ↦
             let l = w.if-sizes-x.false in
             subst (λ s. Reaching g ru.right c.args.set s (j + 1)) (sym w.out-is)
-                (reaching_kind g ru c.args.set c.loop-j.invariant.1 (omega arith))
+            (reaching_kind g ru c.args.set c.loop-j.invariant.1 (omega arith))
       ],
     )
 

@@ -7,7 +7,6 @@ use mathlib.Core.Path.{ap, subst, ◌∙◌}
 use lib.ListN.{length, get_or, take}
 use lib.Seq.{length-take-le}
 use borrow.Author.Tests.{lt-leb, le-leb}
-use borrow.Author.Rules.{rules}
 use Rattle.lines.specs.Lines.Fits.{ahead_fits, at, fits_item}
 use Rattle.lines.proofs.TestLaws.{part_rest}
 use Rattle.table.specs.Sets.{SetOf}

@@ -3,7 +3,6 @@ use native.Mathlib.Omega.{arith}
 use mathlib.Core.Path.{sym, ◌∙◌}
 use lib.ListN.{get_or-eq_default, take, length-take}
 use lib.Seq.{get_or-take}
-use borrow.Author.Rules.{rules}
 use Rattle.lines.proofs.TestLaws.{inside}
 use Rattle.table.proofs.item_line.right_length.Goals as goal
 

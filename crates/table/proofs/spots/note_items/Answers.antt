@@ -50,7 +50,7 @@ returns-then-first-spot_of c = let ns = c.args.table.now in
     let l = c.if-first-spot_of.true in
     record {
       tells = tells_no (λ kept. twice_spot spots c.spot_of.ensures r d (λ j g. each j (omega arith)) (omega arith) (omega arith)
-        (all_lone (table_in ns) s kept k (omega arith)));
+          (all_lone (table_in ns) s kept k (omega arith)));
       spots = λ z. absurd (false≢true z);
     }
 

@@ -61,7 +61,7 @@ returns-then-not-a c = let r = c.read_items-a.ensures.reach in
     let f = sym c.fits_state.ensures ∙ c.if-not-fits_state.false in
     let x = r.0.inside in
     let y = r.0.counted in
-    let stops = not-true _ c.if-not-a.true in
+    let stops = not-true c.read_items-a.result.whole c.if-not-a.true in
     rw c.stopped-then-not-a.ensures (record {
       reach = (
         record { inside = x; counted = omega arith },

@@ -19,7 +19,6 @@ loop-at-init c = (
       (walk_start c.args.table.now _ c.args.rule_at.now c.args.state_at.now refl c.requires.0 c.requires.1),
   subst Heading (sym c.start-s.ensures) start_heading,
   refl,
-
 )
 
 pub sizes_of-requires : goal.sizes_of-requires
