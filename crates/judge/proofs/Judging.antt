@@ -1,11 +1,8 @@
 -- From what each function finds to the relation: the refusals one by one, and the forest's judgement with the room cleared.
 use mathlib.Core.Path.{◌≡◌, ◌∙◌, refl, sym, ap, subst}
-use mathlib.Core.Logic.{⊎_elim}
-use mathlib.Core.List.{List, [], ◌∷◌, ◌++◌}
+use mathlib.Core.List.{List, ◌++◌}
 use Prim.Native.Nat.{ℕ, ◌≤◌, ◌<◌}
 use native.Mathlib.Omega.{arith}
-use types.Run.{OneOf}
-use denote.Enum.Declared.{tag_of}
 use lib.ListN.{length, get_or, take, drop, replicate}
 use lib.Seq.{length-take-le, drop_at}
 use Rattle.theory.specs.Table.{Table, count}
@@ -16,7 +13,6 @@ use Rattle.lines.specs.Ranges.{FitLines}
 use Rattle.table.specs.Check.{Checks, numbers}
 use Rattle.table.specs.Check.Exact.{one_table}
 use Rattle.table.specs.declared.Check.{Check}
-use Rattle.table.specs.contracts.Check.{the_type}
 use Rattle.forest.specs.Words.{max_words}
 use Rattle.forest.specs.Enough.{words_most}
 use Rattle.judge.specs.declared.Judgement.{Judgement}
@@ -36,10 +32,9 @@ refused_into ns tail room j r e h l = subst (λ (x : Judgement). JudgesInto ns t
     (record { judgement = h; kept = λ k. refl; zeroed = λ k. impossible (omega arith) })
 
 -- an answer of the check that is taken apart as no pass has a number
-pub no_pass : (c : Check) → OneOf (1 ∷ 2 ∷ 3 ∷ 4 ∷ 5 ∷ []) (tag_of the_type c) → (numbers c).0 ≡ 0 → ⊥
+pub no_pass : (c : Check) → ((m : ℕ) → c ≡ Check.Passes m → ⊥) → (numbers c).0 ≡ 0 → ⊥
 unfolding numbers
-no_pass (Check.Passes m) h e =
-    ⊎_elim (λ a. omega arith) (λ g. ⊎_elim (λ a. omega arith) (λ k. ⊎_elim (λ a. omega arith) (λ l. ⊎_elim (λ a. omega arith) (λ a. omega arith) l) k) g) h
+no_pass (Check.Passes m) h e = absurd (h m refl)
 no_pass Check.TooLong h e = omega arith
 no_pass (Check.Unfit n) h e = omega arith
 no_pass (Check.NotReduced v) h e = omega arith
@@ -47,7 +42,7 @@ no_pass (Check.Ring v) h e = omega arith
 no_pass (Check.Broken k s) h e = omega arith
 
 -- what the check refuses
-pub check_into : (ns tail room : List ℕ) (c : Check) (r : Judgement) → Checks ns c → OneOf (1 ∷ 2 ∷ 3 ∷ 4 ∷ 5 ∷ []) (tag_of the_type c) →
+pub check_into : (ns tail room : List ℕ) (c : Check) (r : Judgement) → Checks ns c → ((m : ℕ) → c ≡ Check.Passes m → ⊥) →
     r ≡ handed c → JudgesInto ns tail room r room
 check_into ns tail room c r h o e =
     refused_into ns tail room (handed c) r e (JudgesUpTo.refused c h (no_pass c o)) (refused_high c (no_pass c o))

@@ -2,7 +2,7 @@
 use Rattle.std.specs.Prelude.{ℕ, ◌+◌, ◌*◌, ◌≤◌, ◌<◌, ◌≡◌, refl, Bool, true, false, List, [], length, eqb}
 use Rattle.std.proofs.Common.{arith, subst}
 use Rattle.theory.specs.Grammar.{Tokens, empty}
-use Rattle.theory.specs.Table.{Table, Passes, count}
+use Rattle.theory.specs.Table.{Table, count}
 use Rattle.theory.specs.Forest.{Judged, Rising, size}
 use Rattle.theory.specs.Forest.Between.{JudgedAll}
 use Rattle.theory.proofs.Sound.{judged_all}
