@@ -1,7 +1,7 @@
 // What the programs share: an input that is read, numbers that stand in it, and numbers that are printed.
 #![tactic(auto)]
 
-ghost use Rattle.std.specs.Prelude.{◌≡◌, ◌+◌, ◌%◌, ◌≤◌, ◌<◌, IfOk, length, take, drop};
+ghost use Rattle.std.specs.Prelude.{◌≡◌, ◌≢◌, ℕ, ◌+◌, ◌%◌, ◌≤◌, ◌<◌, IfOk, length, take, drop, slice_index};
 ghost use Rattle.std.specs.Io.{ReadsAtMost};
 ghost use Rattle.std.specs.Io.KnownBytes.{Consumes, IsAtEnd};
 ghost use Rattle.runs.specs.Fields.{number_from};
@@ -40,6 +40,24 @@ pub fn field(s: &[u8], at: usize) -> Found
         value = 10 * value + digit(c);
     }
     Found { value, next: i }
+}
+
+// The place of the first such byte from a place on, or the end where there is none.
+pub fn find(s: &[u8], from: usize, byte: u8) -> usize
+    requires { from ≤ length s.now }
+    ensures from { from ≤ result }
+    ensures within { result ≤ length s.now }
+    ensures before { (k : ℕ) → from ≤ k → k < result → slice_index s.now k ≢ byte }
+    ensures found { result < length s.now → slice_index s.now result ≡ byte }
+{
+    let mut i = from;
+    while i < s.len() {
+        if s[i] == byte {
+            return i;
+        }
+        i += 1;
+    }
+    i
 }
 
 // What a digit says.
