@@ -2,7 +2,7 @@
 #include <stddef.h>
 #include <stdint.h>
 
-/* The proved functions: crates/entry. A slice is a pointer and a length. */
+/* The proved functions: crates/entry, by the archive of crates/entry_c. A slice is a pointer and a length. */
 uint64_t quyetlumon_read(const uint8_t *bytes, size_t count, uint16_t *out, size_t places);
 uint64_t quyetlumon_check(const uint16_t *table, size_t count);
 uint64_t quyetlumon_judge(const uint16_t *table, size_t numbers, const uint16_t *tail, size_t tokens, uint32_t *room, size_t words);

@@ -1,8 +1,8 @@
 // Entries as letters: a space is 0, `a` is 1, `Z` is the highest. A print's numbers likewise, with a dot for 0.
-ghost use Rattle.std.specs.Prelude.{◌≤◌, length};
+ghost use Rattle.std.specs.Prelude.{◌≤◌, IfOk, length};
 
 use crate::places::JUNK;
-use libc::STDOUT_FILENO;
+use std::io;
 
 // How many entries were read, and the place after the byte that ends them.
 #[derive(Clone, Copy)]
@@ -46,34 +46,31 @@ pub(crate) fn read(s: &[u8], from: usize, entries: &mut [u16]) -> Found
 }
 
 // Prints the letter of a print's number, and a question mark where no path has a letter for it.
-fn show_one(x: usize) {
+fn show_one(rt: &impl Print, x: usize) -> io::Result<()> {
     if x == 0 {
-        io::write_all(STDOUT_FILENO, b".");
-        return;
+        return rt.write_all(b".");
     }
     if x == 65535 {
-        io::write_all(STDOUT_FILENO, b"Z");
-        return;
+        return rt.write_all(b"Z");
     }
     if 26 < x {
-        io::write_all(STDOUT_FILENO, b"?");
-        return;
+        return rt.write_all(b"?");
     }
-    io::write_all(STDOUT_FILENO, &[96 + x as u8]);
+    rt.write_all(&[96 + x as u8])
 }
 
 // Prints the numbers up to the first JUNK, and answers its place.
-pub(crate) fn show(out: &[usize]) -> usize
-    ensures { result ≤ length out.now }
+pub(crate) fn show(rt: &impl Print, out: &[usize]) -> io::Result<usize>
+    ensures { IfOk result (λ end. end ≤ length out.now) }
 {
     let mut i = 0;
     while i < out.len() {
         let x = out[i];
         if x == JUNK {
-            return i;
+            return Ok(i);
         }
-        show_one(x);
+        show_one(rt, x)?;
         i += 1;
     }
-    i
+    Ok(i)
 }

@@ -5,11 +5,14 @@
 // as many as are asked for, `-` one less, `+` some more. Before the call every place holds JUNK.
 // For each case one line is printed: `joined` or `refused`; the print, a letter for a root and a dot for the end of some trees side by side; and
 // how many places after it are as they were.
+#![tactic(auto)]
+
 ghost use Rattle.std.specs.Prelude.{◌≤◌};
 
 use forest::joined;
-use libc::{STDIN_FILENO, STDOUT_FILENO};
 use lines::Shape;
+use runs::read_full;
+use std::io;
 
 mod letters; // letters.rt: entries as letters
 mod places; // places.rt: the places of a print before and after
@@ -41,66 +44,66 @@ fn lent(sign: u8, entries: usize) -> usize
 }
 
 // Prints what was told, and what became of the places.
-fn tell(told: bool, out: &[usize]) {
+fn tell(rt: &impl Print, told: bool, out: &[usize]) -> io::Result<()> {
     if told {
-        io::write_all(STDOUT_FILENO, b"joined ");
+        rt.write_all(b"joined ")?;
     } else {
-        io::write_all(STDOUT_FILENO, b"refused ");
+        rt.write_all(b"refused ")?;
     }
-    let end = letters::show(out);
+    let end = letters::show(rt, out)?;
     let same = places::same_from(out, end);
-    runs::show(same - end);
-    io::write_all(STDOUT_FILENO, b"\n");
+    runs::show(rt, same - end)?;
+    rt.write_all(b"\n")
 }
 
 // Joins two forests in the lent places of `out`.
-fn join_two(first: &[u16], second: &[u16], out: &mut [usize]) {
+fn join_two(rt: &impl Print, first: &[u16], second: &[u16], out: &mut [usize]) -> io::Result<()> {
     places::fill(out);
     let told = joined(first, second, out);
-    tell(told, out);
+    tell(rt, told, out)
 }
 
 // Runs the case that begins at a place, and answers the place after it.
 fn case_at(
+    rt: &impl Print,
     input: &[u8],
     at: usize,
     first: &mut [u16],
     second: &mut [u16],
     out: &mut [usize],
-) -> usize {
+) -> io::Result<usize> {
     if input.len() <= at {
-        return input.len();
+        return Ok(input.len());
     }
     let one = letters::read(input, at + 1, first);
     let two = letters::read(input, one.next, second);
     if MAX_ENTRIES < one.count {
-        return input.len();
+        return Ok(input.len());
     }
     if MAX_ENTRIES < two.count {
-        return input.len();
+        return Ok(input.len());
     }
     let k = lent(input[at], one.count + two.count);
     if out.len() < k {
-        return input.len();
+        return Ok(input.len());
     }
-    join_two(&first[..one.count], &second[..two.count], &mut out[..k]);
-    two.next
+    join_two(rt, &first[..one.count], &second[..two.count], &mut out[..k])?;
+    Ok(two.next)
 }
 
-fn main() {
+fn main(rt: HostRuntime) -> io::Result<()> {
     let mut input = [0u8; MAX_INPUT];
     let mut first = [0u16; MAX_ENTRIES];
     let mut second = [0u16; MAX_ENTRIES];
     let mut out = [0usize; MAX_PLACES];
-    let n = io::read_full(STDIN_FILENO, &mut input);
+    let n = read_full(&mut rt.stdin(), &mut input)?;
     let given = &input[..n];
     let mut at = 0;
-    let mut k = 0;
-    while k < MAX_CASES {
+    for _ in 0..MAX_CASES {
         if given.len() <= at {
-            return;
+            break;
         }
-        at = case_at(given, at, &mut first, &mut second, &mut out);
-        k += 1;
+        at = case_at(&rt, given, at, &mut first, &mut second, &mut out)?;
     }
+    Ok(())
 }

@@ -1,4 +1,6 @@
 // The judging program's work: from the bytes of an input to the judgement, and to the lines that are printed.
+#![tactic(auto)]
+
 mod cut; // cut.rt: the last line, and the count of lines
 mod shown; // shown.rt: the three lines that are printed
 mod within; // within.rt: an input within any limits
