@@ -2,10 +2,7 @@
 use Prim.Native.Nat.{ℕ, ◌-◌, ◌≤◌, ◌<◌}
 use native.Mathlib.Omega.{arith}
 use mathlib.Core.Path.{◌≡◌, refl, sym, ap, ◌∙◌, subst, transport}
-use mathlib.Core.Logic.{⊎_elim}
-use mathlib.Core.List.{List, [], ◌∷◌}
-use types.Run.{OneOf}
-use denote.Enum.Declared.{tag_of}
+use mathlib.Core.List.{List}
 use lib.ListN.{length, take, drop, replicate, length-replicate}
 use lib.Seq.{take_at, length_front, length-take-le}
 use Rattle.theory.specs.Table.{Table}
@@ -17,10 +14,8 @@ use Rattle.sheet.specs.Reads.{Reads, ReadsInto, SheetOf, answer_of}
 use Rattle.sheet.specs.Tail.{Words, tail_line, ReadsTail}
 use Rattle.sheet.specs.declared.Answer.{Answer}
 use Rattle.sheet.specs.declared.TailLine.{TailLine}
-use Rattle.sheet.specs.contracts.Answer.{the_type}
 use Rattle.table.specs.Check.{Checks}
 use Rattle.table.specs.declared.Check.{Check}
-use Rattle.table.specs.contracts.Check.{the_type as check-type}
 use Rattle.judge.specs.Judge.{refusal, handed, JudgesUpTo}
 use Rattle.judge.specs.Judge.Exact.{passing, narrow}
 use Rattle.judge.specs.declared.Judgement.{Judgement}
@@ -33,7 +28,7 @@ use Rattle.input.specs.Parts.{box_of, handed_out, Tailed}
 
 module _ (ns : List ℕ) (limit : ℕ) (c : Check) (h : Checks ns c) (r : Judgement) where
   -- the check's refusal goes first
-  pub many_refused : OneOf (1 ∷ 2 ∷ 3 ∷ 4 ∷ 5 ∷ []) (tag_of check-type c) → r ≡ handed c →
+  pub many_refused : ((m : ℕ) → c ≡ Check.Passes m → ⊥) → r ≡ handed c →
       (tail : List ℕ) (room : ℕ) → limit < length tail → JudgesUpTo limit ns tail room r
   many_refused o e tail room l = subst (JudgesUpTo limit ns tail room) (sym e) (JudgesUpTo.refused c h (no_pass c o))
 
@@ -106,9 +101,9 @@ row_of o n (ReadsInto.refused a v r z) = r
 row_of o n (ReadsInto.filled t s l) = absurd (n refl)
 
 -- an answer of the reader that is taken apart as no fit has a number
-no_fit : (a : Answer) → OneOf (1 ∷ 2 ∷ 3 ∷ 4 ∷ []) (tag_of the_type a) → (answer_of a).0 ≡ 0 → ⊥
+no_fit : (a : Answer) → ((n : ℕ) → a ≡ Answer.Fit n → ⊥) → (answer_of a).0 ≡ 0 → ⊥
 unfolding answer_of
-no_fit (Answer.Fit n) h e = ⊎_elim (λ a. omega arith) (λ g. ⊎_elim (λ a. omega arith) (λ k. ⊎_elim (λ a. omega arith) (λ a. omega arith) k) g) h
+no_fit (Answer.Fit n) h e = absurd (h n refl)
 no_fit Answer.TooLong h e = omega arith
 no_fit (Answer.Form n) h e = omega arith
 no_fit (Answer.Range n) h e = omega arith
@@ -159,7 +154,7 @@ module _ (most : ℕ) (table tail room bs : List ℕ) where
       its_input = record { not_over = few; its_lines = L }
 
       -- the sheet is refused
-      pub boxes_unread : OneOf (1 ∷ 2 ∷ 3 ∷ 4 ∷ []) (tag_of the_type a) → j ≡ handed_out a → Boxes (box_of most table tail room) bs j
+      pub boxes_unread : ((n : ℕ) → a ≡ Answer.Fit n → ⊥) → j ≡ handed_out a → Boxes (box_of most table tail room) bs j
       boxes_unread o e =
           let n = no_fit a o in
           let r = row_of (answer_of a) n R in

@@ -1,0 +1,12 @@
+-- `put` copies a text to its place. The invariant: so many bytes of it are there.
+use mathlib.Core.Path.{◌≡◌}
+use lib.Seq.{paste}
+use lib.ListN.{length}
+use Prim.Native.Nat.{◌-◌, ◌≤◌}
+use Rattle.input.proofs.shown.put.Given as goal
+
+abbrev pub invariant-loop-i : goal.invariant-loop-i
+invariant-loop-i l = (l.i ≤ length l.text) × (length l.out ≡ length l.initial.out) × (l.out ≡ paste l.initial.out l.at l.text l.i)
+
+abbrev pub decreases-loop-i : goal.decreases-loop-i
+decreases-loop-i l = length l.text - l.i
