@@ -1,3 +1,5 @@
+pub mod Box
+pub mod Marked
 pub mod Cutting
 pub mod Boxing
 pub mod Showing

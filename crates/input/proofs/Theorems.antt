@@ -8,10 +8,12 @@ use Rattle.sheet.specs.Tail.{Words, tail_line}
 use Rattle.judge.specs.Judge.{Good, Ready}
 use Rattle.judge.specs.declared.Judgement.{Judgement}
 use Rattle.input.specs.Box.{small_box, large_box, Boxes, Given, numbers_of}
-use Rattle.input.specs.Box.Exact.{unique as one-outcome}
-use Rattle.input.specs.Box.Worth.{Worthy, box_demands, box_not_refused}
+use Rattle.input.proofs.Box.Exact.{unique as one-outcome}
+use Rattle.input.specs.Box.Worth.{Worthy}
+use Rattle.input.proofs.Box.Worth.{box_demands, box_not_refused}
 use Rattle.input.specs.Box.Answers.{no_steps}
-use Rattle.input.specs.Marked.{Case, cases, marked}
+use Rattle.input.specs.Marked.{Case, cases}
+use Rattle.input.proofs.Marked.{marked}
 use Rattle.input.proofs.judge_box.Reads as B
 use Rattle.input.proofs.judge_large.Reads as L
 use Rattle.input.proofs.shown.three_lines.Reads as T

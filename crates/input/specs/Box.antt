@@ -1,5 +1,5 @@
 -- The judging program: from the bytes of its input to answer, value and steps, as a relation and as a program, for any limits.
--- `Box.Exact` proves that of every input exactly one outcome holds: that of the program.
+-- `proofs/Box/Exact.antt` proves that of every input exactly one outcome holds: that of the program.
 use Rattle.std.specs.Prelude.{ℕ, ◌≤◌, ◌<◌, ◌≡◌, true, false, ◌⊎◌, List, [], ◌∷◌, ◌++◌, length, eqb, leb}
 use Rattle.std.proofs.Math.Option.{none, some}
 use Rattle.theory.specs.Table.{Table}
@@ -13,7 +13,6 @@ use Rattle.sheet.specs.Tail.{Words, tail_line, tail_of}
 use Rattle.judge.specs.Judge.{refusal, JudgesUpTo, outcome_up_to}
 use Rattle.judge.specs.declared.Judgement.{Judgement}
 pub mod Last
-pub mod Exact
 pub mod Sizes
 pub mod Answers
 pub mod Worth
