@@ -6,7 +6,7 @@ use mathlib.Core.List.{List}
 use Rattle.sheet.specs.Reads.{ReadsInto, answer_of}
 use Rattle.sheet.specs.declared.Answer.{Answer}
 use Rattle.table.specs.Check.{Checks}
-use Rattle.table.specs.declared.Check.{Check}
+use Rattle.table.specs.Check.{Check}
 use Rattle.judge.specs.declared.Judgement.{Judgement}
 use Rattle.judge.specs.Judge.{handed}
 use Rattle.judge.specs.Judge.Into.{JudgesInto}

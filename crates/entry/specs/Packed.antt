@@ -4,7 +4,7 @@ use Rattle.std.specs.Prelude.{ℕ, ◌/◌, ◌%◌, ◌≡◌, List}
 use Rattle.sheet.specs.Reads.{ReadsInto, answer_of}
 use Rattle.sheet.specs.declared.Answer.{Answer}
 use Rattle.table.specs.Check.{Checks, numbers}
-use Rattle.table.specs.declared.Check.{Check}
+use Rattle.table.specs.Check.{Check}
 use Rattle.judge.specs.Judge.Into.{JudgesInto}
 use Rattle.judge.specs.declared.Judgement.{Judgement}
 

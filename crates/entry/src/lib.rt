@@ -4,7 +4,7 @@
 ghost use Rattle.std.specs.Prelude.{◌≡◌, ◌<◌};
 ghost use Rattle.entry.specs.Packed.{Packs, read_numbers, ReadsAs, ChecksAs, JudgesAs};
 
-use judge::{Judgement, judge, numbers_of, refusal};
+use judge::{Judgement, judge, refusal};
 use sheet::{Answer, read};
 use table::check_table;
 
@@ -43,7 +43,7 @@ pub extern "C" fn quyetlumon_read(bytes: &[u8], out: &mut [u16]) -> u64
 pub extern "C" fn quyetlumon_check(table: &[u16]) -> u64
     ensures { ChecksAs table.now result }
 {
-    let told = numbers_of(check_table(table));
+    let told = Judgement::from(check_table(table));
     pack(told.answer, told.value, told.steps)
 }
 

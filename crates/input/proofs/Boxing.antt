@@ -1,4 +1,5 @@
 -- From what each part finds to the outcome of the whole input.
+use Rattle.std.specs.Prelude.{Ok}
 use Prim.Native.Nat.{ℕ, ◌-◌, ◌≤◌, ◌<◌}
 use native.Mathlib.Omega.{arith}
 use mathlib.Core.Path.{◌≡◌, refl, sym, ap, ◌∙◌, subst, transport}
@@ -15,7 +16,7 @@ use Rattle.sheet.specs.Tail.{Words, tail_line, ReadsTail}
 use Rattle.sheet.specs.declared.Answer.{Answer}
 use Rattle.sheet.specs.declared.TailLine.{TailLine}
 use Rattle.table.specs.Check.{Checks}
-use Rattle.table.specs.declared.Check.{Check}
+use Rattle.table.specs.Check.{Check}
 use Rattle.judge.specs.Judge.{refusal, handed, JudgesUpTo}
 use Rattle.judge.specs.Judge.Exact.{passing, narrow}
 use Rattle.judge.specs.declared.Judgement.{Judgement}
@@ -28,12 +29,12 @@ use Rattle.input.specs.Parts.{box_of, handed_out, Tailed}
 
 module _ (ns : List ℕ) (limit : ℕ) (c : Check) (h : Checks ns c) (r : Judgement) where
   -- the check's refusal goes first
-  pub many_refused : ((m : ℕ) → c ≡ Check.Passes m → ⊥) → r ≡ handed c →
+  pub many_refused : ((m : ℕ) → c ≡ Ok m → ⊥) → r ≡ handed c →
       (tail : List ℕ) (room : ℕ) → limit < length tail → JudgesUpTo limit ns tail room r
   many_refused o e tail room l = subst (JudgesUpTo limit ns tail room) (sym e) (JudgesUpTo.refused c h (no_pass c o))
 
   -- by a table that passes it is 30
-  pub many_over : (m : ℕ) → c ≡ Check.Passes m → r ≡ refusal 30 limit →
+  pub many_over : (m : ℕ) → c ≡ Ok m → r ≡ refusal 30 limit →
       (tail : List ℕ) (room : ℕ) → limit < length tail → JudgesUpTo limit ns tail room r
   many_over m p e tail room l =
       let (t, g, s) = passing (subst (Checks ns) p h) in

@@ -7,9 +7,9 @@ ghost use Rattle.input.specs.Box.Sizes.{line_count};
 ghost use Rattle.input.specs.Parts.{box_of, handed_out, Tailed};
 
 use crate::cut::{last_line, line_count};
-use judge::{Judgement, judge, numbers_of, refusal};
+use judge::{Judgement, judge, refusal};
 use sheet::{Answer, TailLine, read, read_tail};
-use table::{Check, check_table};
+use table::check_table;
 
 // The reader's answer handed out as a judgement.
 fn unread(answer: Answer) -> Judgement
@@ -29,8 +29,8 @@ fn too_many(table: &[u16], limit: usize) -> Judgement
     ensures { (tail : List ℕ) (room : ℕ) → limit < length tail → JudgesUpTo limit table.now tail room result }
 {
     let c = check_table(table);
-    let Check::Passes(_) = c else {
-        return numbers_of(c);
+    let Ok(_) = c else {
+        return Judgement::from(c);
     };
     refusal(30, limit)
 }

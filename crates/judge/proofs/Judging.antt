@@ -1,4 +1,6 @@
 -- From what each function finds to the relation: the refusals one by one, and the forest's judgement with the room cleared.
+use Rattle.std.specs.Prelude.{Ok, Err}
+use Rattle.table.specs.declared.Fault.{Fault}
 use mathlib.Core.Path.{◌≡◌, ◌∙◌, refl, sym, ap, subst}
 use mathlib.Core.List.{List, ◌++◌}
 use Prim.Native.Nat.{ℕ, ◌≤◌, ◌<◌}
@@ -12,7 +14,7 @@ use Rattle.lines.specs.Lines.{flat}
 use Rattle.lines.specs.Ranges.{FitLines}
 use Rattle.table.specs.Check.{Checks, numbers}
 use Rattle.table.specs.Check.Exact.{one_table}
-use Rattle.table.specs.declared.Check.{Check}
+use Rattle.table.specs.Check.{Check}
 use Rattle.forest.specs.Words.{max_words}
 use Rattle.forest.specs.Enough.{words_most}
 use Rattle.judge.specs.declared.Judgement.{Judgement}
@@ -32,17 +34,17 @@ refused_into ns tail room j r e h l = subst (λ (x : Judgement). JudgesInto ns t
     (record { judgement = h; kept = λ k. refl; zeroed = λ k. impossible (omega arith) })
 
 -- an answer of the check that is taken apart as no pass has a number
-pub no_pass : (c : Check) → ((m : ℕ) → c ≡ Check.Passes m → ⊥) → (numbers c).0 ≡ 0 → ⊥
+pub no_pass : (c : Check) → ((m : ℕ) → c ≡ Ok m → ⊥) → (numbers c).0 ≡ 0 → ⊥
 unfolding numbers
-no_pass (Check.Passes m) h e = absurd (h m refl)
-no_pass Check.TooLong h e = omega arith
-no_pass (Check.Unfit n) h e = omega arith
-no_pass (Check.NotReduced v) h e = omega arith
-no_pass (Check.Ring v) h e = omega arith
-no_pass (Check.Broken k s) h e = omega arith
+no_pass (Ok m) h e = absurd (h m refl)
+no_pass (Err Fault.TooLong) h e = omega arith
+no_pass (Err (Fault.Unfit n)) h e = omega arith
+no_pass (Err (Fault.NotReduced v)) h e = omega arith
+no_pass (Err (Fault.Ring v)) h e = omega arith
+no_pass (Err (Fault.Broken k s)) h e = omega arith
 
 -- what the check refuses
-pub check_into : (ns tail room : List ℕ) (c : Check) (r : Judgement) → Checks ns c → ((m : ℕ) → c ≡ Check.Passes m → ⊥) →
+pub check_into : (ns tail room : List ℕ) (c : Check) (r : Judgement) → Checks ns c → ((m : ℕ) → c ≡ Ok m → ⊥) →
     r ≡ handed c → JudgesInto ns tail room r room
 check_into ns tail room c r h o e =
     refused_into ns tail room (handed c) r e (JudgesUpTo.refused c h (no_pass c o)) (refused_high c (no_pass c o))
@@ -55,18 +57,18 @@ unfolding flat
 terms-at f = ap (λ (x : List ℕ). get_or x 1 0) f.its_numbers
 
 -- there is a second number
-pub some_numbers : {ns : List ℕ} {m : ℕ} → Checks ns (Check.Passes m) → 1 < length ns
+pub some_numbers : {ns : List ℕ} {m : ℕ} → Checks ns (Ok m) → 1 < length ns
 unfolding flat
 some_numbers P = let (t, g, s) = passing P in let e = ap length g.its_numbers.its_numbers in omega arith
 
 -- the words of room that a tail calls for are a small number
-pub words_small : {ns : List ℕ} {m : ℕ} (tail : List ℕ) → Checks ns (Check.Passes m) → length tail ≤ max_tail → words m (length tail) ≤ max_words
+pub words_small : {ns : List ℕ} {m : ℕ} (tail : List ℕ) → Checks ns (Ok m) → length tail ≤ max_tail → words m (length tail) ≤ max_words
 words_small {m = m} tail P few =
     let (t, g, s) = passing P in
     let c = g.its_numbers.in_range.state_count in
     words_most m (length tail) (omega arith) few
 
-module _ (ns tail room : List ℕ) (m : ℕ) (P : Checks ns (Check.Passes m)) where
+module _ (ns tail room : List ℕ) (m : ℕ) (P : Checks ns (Ok m)) where
   -- too many tokens
   pub over_into : (r : Judgement) → max_tail < length tail → r ≡ refusal 30 max_tail → JudgesInto ns tail room r room
   over_into r h e = let (t, g, s) = passing P in refused_into ns tail room (refusal 30 max_tail) r e (JudgesUpTo.over t g h) (omega arith)

@@ -1,6 +1,8 @@
 -- The judge: answer, value and steps as a relation, one case for each row of document 01's table of numbers, and as a program; and the room
 -- afterwards. `Judge.Exact` proves that exactly one judgement holds: the program's. `Judge.Demands` says what a judgement is
 -- worth. `Judge.Into` adds the room.
+use Rattle.std.specs.Prelude.{Err}
+use Rattle.table.specs.declared.Fault.{Fault}
 use Rattle.std.specs.Prelude.{ℕ, suc, ◌+◌, ◌*◌, ◌≤◌, ◌<◌, ◌≡◌, true, false, List, [], ◌∷◌, ◌++◌, length, drop, replicate, ltb, leb}
 use Rattle.std.proofs.Math.Option.{Option, none, some}
 use Rattle.theory.specs.Grammar.{Grammar, Tokens}
@@ -13,7 +15,7 @@ use Rattle.lines.specs.Ranges.{FitLines}
 use Rattle.table.specs.Checks.{Answer}
 use Rattle.table.specs.Run.{checks}
 use Rattle.table.specs.Check.{Checks, numbers, told, check_outcome}
-use Rattle.table.specs.declared.Check.{Check}
+use Rattle.table.specs.Check.{Check}
 use Rattle.judge.specs.declared.Judgement.{Judgement}
 pub mod Exact
 pub mod Demands
@@ -117,8 +119,8 @@ judge_as limit t tail room (Answer.broken k s) = handed (told t (Answer.broken k
 unfoldable pub outcome_up_to : ℕ → List ℕ → List ℕ → ℕ → Judgement
 unfolding read_numbers checks judge_as numbers
 outcome_up_to limit ns tail room = elim (read_numbers ns) [
-  | Lined.over ↦ handed Check.TooLong
-  | Lined.unfit n ↦ handed (Check.Unfit n)
+  | Lined.over ↦ handed (Err Fault.TooLong)
+  | Lined.unfit n ↦ handed (Err (Fault.Unfit n))
   | Lined.fine d ↦ judge_as limit (table_of d) tail room (checks (table_of d))
 ]
 

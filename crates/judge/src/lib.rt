@@ -8,13 +8,12 @@ mod run; // run.rt: the forest's run over a tail
 mod tail; // tail.rt: the tokens of a tail
 
 ghost use Rattle.table.specs.Check.{Checks};
-ghost use Rattle.table.specs.declared.Check.{Check};
 ghost use Rattle.judge.specs.Judge.Into.{JudgesInto};
 
 use lines::Shape;
-pub use numbers::{numbers_of, refusal};
+pub use numbers::refusal;
 use ready::judge_ready;
-use table::{Check, check_table};
+use table::check_table;
 use tail::{first_strange, token};
 
 // What comes back: document 01's answer, its value, and the forest's own count of steps.
@@ -30,7 +29,7 @@ const TERMS_AT: usize = 1;
 
 // The judgement by a table that passes: too many tokens, a token that is none, too little room, or the forest's own judgement.
 fn judge_tail(table: &[u16], tail: &[u16], room: &mut [u32], states: usize) -> Judgement
-    requires { Checks table.now (Check.Passes states) }
+    requires { Checks table.now (Ok states) }
     ensures { JudgesInto table.now tail.now room.old result room.new }
 {
     let n = tail.len();
@@ -53,8 +52,8 @@ pub fn judge(table: &[u16], tail: &[u16], room: &mut [u32]) -> Judgement
     ensures { JudgesInto table.now tail.now room.old result room.new }
 {
     let c = check_table(table);
-    let Check::Passes(states) = c else {
-        return numbers_of(c);
+    let Ok(states) = c else {
+        return Judgement::from(c);
     };
     judge_tail(table, tail, room, states)
 }

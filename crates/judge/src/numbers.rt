@@ -1,31 +1,49 @@
 // Document 01's numbers for a refusal.
-ghost use Rattle.judge.specs.Judge.{refusal, handed};
+ghost use Rattle.judge.specs.Judge.{refusal};
 ghost use Rattle.std.specs.Prelude.{◌≡◌};
 
 use crate::Judgement;
-use table::Check;
+use table::Fault;
 
 // A refusal: no steps.
 pub fn refusal(answer: usize, value: usize) -> Judgement
     ensures { result ≡ refusal answer value }
 {
     Judgement {
-        answer: answer,
-        value: value,
+        answer,
+        value,
         steps: 0,
     }
 }
 
-// The check's answer handed out as a judgement.
-pub fn numbers_of(c: Check) -> Judgement
-    ensures { result ≡ handed c }
-{
-    match c {
-        Check::Passes(states) => refusal(0, states),
-        Check::TooLong => refusal(10, 0),
-        Check::Unfit(line) => refusal(12, line),
-        Check::NotReduced(symbol) => refusal(20, symbol),
-        Check::Ring(symbol) => refusal(21, symbol),
-        Check::Broken(_, _) => refusal(22, 0),
+// A table's fault handed out as a judgement.
+impl From<Fault> for Judgement {
+    ghost use Rattle.std.specs.Prelude.{Err};
+    ghost use Rattle.judge.specs.Judge.{handed};
+
+    ghost from_gives = { λ fault j. j ≡ handed (Err fault) };
+
+    fn from(fault: Fault) -> Judgement {
+        match fault {
+            Fault::TooLong => refusal(10, 0),
+            Fault::Unfit(line) => refusal(12, line),
+            Fault::NotReduced(symbol) => refusal(20, symbol),
+            Fault::Ring(symbol) => refusal(21, symbol),
+            Fault::Broken(_, _) => refusal(22, 0),
+        }
+    }
+}
+
+// The check's answer handed out as a judgement: of a table that passes the count of its states.
+impl From<Result<usize, Fault>> for Judgement {
+    ghost use Rattle.judge.specs.Judge.{handed};
+
+    ghost from_gives = { λ check j. j ≡ handed check };
+
+    fn from(check: Result<usize, Fault>) -> Judgement {
+        match check {
+            Ok(states) => refusal(0, states),
+            Err(fault) => Judgement::from(fault),
+        }
     }
 }

@@ -2,7 +2,7 @@
 use mathlib.Core.Path.{◌≡◌}
 use contract.Lifetimes.{Lfts}
 use Rattle.table.specs.Check.Exact.{unique as unique-answer}
-use Rattle.table.specs.declared.Check.{Check}
+use Rattle.table.specs.Check.{Check}
 use Rattle.table.proofs.check_table.Reads as C
 
 pub unique : (κs : Lfts 1) (a : _) (r r' : Check) (e e' : _) → C.Learnt κs a r e → C.Learnt κs a r' e' → r ≡ r'

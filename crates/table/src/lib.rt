@@ -66,11 +66,9 @@ pub(crate) enum Read {
     Fits(Sizes),
 }
 
-// What the check tells. A line, a nonterminal or a state is told by its number.
-#[derive(Clone, Copy)]
-pub enum Check {
-    // The table passes: how many states it has.
-    Passes(usize),
+// Why a table does not pass. A line, a nonterminal or a state is told by its number.
+#[derive(Clone, Copy, Debug, PartialEq, Eq)]
+pub enum Fault {
     // It has too many numbers.
     TooLong,
     // A line does not fit, ends early or runs on.
@@ -99,7 +97,7 @@ const MANY: usize = 6000;
 const MOST: usize = Shape::MAX_NUMBERS / SPREAD;
 
 // Checks a table of numbers, with room for its look-ahead sets.
-fn check_in(table: &[u16], sets: &mut [u64]) -> Check
+fn check_in(table: &[u16], sets: &mut [u64]) -> Result<usize, Fault>
     requires { length table.now ≤ max_numbers → length table.now ≤ 4 * length sets.old }
     ensures { Checks table.now result }
 {
@@ -107,14 +105,14 @@ fn check_in(table: &[u16], sets: &mut [u64]) -> Check
     let mut state_at = [0u16; Shape::MAX_STATES];
     let read = read_lines(table, &mut rule_at, &mut state_at, sets);
     match read {
-        Read::TooLong => Check::TooLong,
-        Read::Unfit(line) => Check::Unfit(line),
+        Read::TooLong => Err(Fault::TooLong),
+        Read::Unfit(line) => Err(Fault::Unfit(line)),
         Read::Fits(sizes) => from_reduced(table, &rule_at, &state_at, sizes, sets),
     }
 }
 
 // Checks a table of numbers. A small table is checked in a small room.
-pub fn check_table(table: &[u16]) -> Check
+pub fn check_table(table: &[u16]) -> Result<usize, Fault>
     ensures { Checks table.now result }
 {
     let n = table.len();

@@ -15,7 +15,7 @@ use crate::condition_6::breaks_6;
 use crate::condition_7::breaks_7;
 use crate::faults::{lowest_fault, lowest_ring};
 use crate::firsts::firsts;
-use crate::{Check, Found, Sizes};
+use crate::{Fault, Found, Sizes};
 use lines::Shape;
 
 // Conditions 5 to 7, where all states keep 1 to 4.
@@ -25,23 +25,23 @@ fn from_5(
     state_at: &[u16; Shape::MAX_STATES],
     sizes: Sizes,
     sets: &[u64],
-) -> Check
+) -> Result<usize, Fault>
     requires { Held table.now rule_at.now sizes × StatesHeld table.now state_at.now sizes × Reduced (grammar_in table.now) × NoRing (grammar_in table.now) × KeptBefore (table_in table.now) 5 × AllNoted table.now state_at.now sizes sets.now }
     ensures { Answers (table_in table.now) result }
 {
     let fifth = breaks_5(table, rule_at, state_at, sizes, sets);
     if fifth < sizes.states {
-        return Check::Broken(5, fifth);
+        return Err(Fault::Broken(5, fifth));
     }
     let sixth = breaks_6(table, state_at, sizes);
     if sixth < sizes.states {
-        return Check::Broken(6, sixth);
+        return Err(Fault::Broken(6, sixth));
     }
     let seventh = breaks_7(table, rule_at, state_at, sizes, sets);
     if seventh < sizes.states {
-        return Check::Broken(7, seventh);
+        return Err(Fault::Broken(7, seventh));
     }
-    Check::Passes(sizes.states)
+    Ok(sizes.states)
 }
 
 // Condition 4 and those after it, where all states keep 1 to 3.
@@ -51,14 +51,14 @@ fn from_4(
     state_at: &[u16; Shape::MAX_STATES],
     sizes: Sizes,
     sets: &[u64],
-) -> Check
+) -> Result<usize, Fault>
     requires { Held table.now rule_at.now sizes × StatesHeld table.now state_at.now sizes × Reduced (grammar_in table.now) × NoRing (grammar_in table.now) × KeptBefore (table_in table.now) 4 × AllNoted table.now state_at.now sizes sets.now }
     ensures { Answers (table_in table.now) result }
 {
     let rows = firsts(table, rule_at, sizes);
     let fourth = breaks_4(table, rule_at, state_at, sizes, sets, &rows);
     if fourth < sizes.states {
-        return Check::Broken(4, fourth);
+        return Err(Fault::Broken(4, fourth));
     }
     from_5(table, rule_at, state_at, sizes, sets)
 }
@@ -70,21 +70,21 @@ fn from_1(
     state_at: &[u16; Shape::MAX_STATES],
     sizes: Sizes,
     sets: &[u64],
-) -> Check
+) -> Result<usize, Fault>
     requires { Held table.now rule_at.now sizes × StatesHeld table.now state_at.now sizes × Reduced (grammar_in table.now) × NoRing (grammar_in table.now) × AllNoted table.now state_at.now sizes sets.now }
     ensures { Answers (table_in table.now) result }
 {
     let first = breaks_1(table, state_at, sizes);
     if first < sizes.states {
-        return Check::Broken(1, first);
+        return Err(Fault::Broken(1, first));
     }
     let second = breaks_2(table, state_at, sizes);
     if second < sizes.states {
-        return Check::Broken(2, second);
+        return Err(Fault::Broken(2, second));
     }
     let third = breaks_3(table, rule_at, state_at, sizes);
     if third < sizes.states {
-        return Check::Broken(3, third);
+        return Err(Fault::Broken(3, third));
     }
     from_4(table, rule_at, state_at, sizes, sets)
 }
@@ -96,13 +96,13 @@ fn from_ring(
     state_at: &[u16; Shape::MAX_STATES],
     sizes: Sizes,
     sets: &[u64],
-) -> Check
+) -> Result<usize, Fault>
     requires { Held table.now rule_at.now sizes × StatesHeld table.now state_at.now sizes × Reduced (grammar_in table.now) × AllNoted table.now state_at.now sizes sets.now }
     ensures { Answers (table_in table.now) result }
 {
     let ring = lowest_ring(table, rule_at, sizes);
     match ring {
-        Found::At(v) => Check::Ring(v),
+        Found::At(v) => Err(Fault::Ring(v)),
         Found::Nothing => from_1(table, rule_at, state_at, sizes, sets),
     }
 }
@@ -114,13 +114,13 @@ pub(crate) fn from_reduced(
     state_at: &[u16; Shape::MAX_STATES],
     sizes: Sizes,
     sets: &[u64],
-) -> Check
+) -> Result<usize, Fault>
     requires { Held table.now rule_at.now sizes × StatesHeld table.now state_at.now sizes × AllNoted table.now state_at.now sizes sets.now }
     ensures { Answers (table_in table.now) result }
 {
     let fault = lowest_fault(table, rule_at, sizes);
     match fault {
-        Found::At(v) => Check::NotReduced(v),
+        Found::At(v) => Err(Fault::NotReduced(v)),
         Found::Nothing => from_ring(table, rule_at, state_at, sizes, sets),
     }
 }

@@ -8,7 +8,7 @@
 
 use runs::{field, find, read_full, show_two};
 use std::io;
-use table::{Check, check_table};
+use table::{Fault, check_table};
 
 mod cases; // cases.rt: the tables that the parts of an input make
 
@@ -19,14 +19,14 @@ const MAX_INPUT: usize = 80000;
 const MAX_NUMBERS: usize = 65535;
 
 // Prints what the check tells by document 01's number and value, and for a broken condition which one and where.
-fn show_check(rt: &impl Print, check: Check) -> io::Result<()> {
+fn show_check(rt: &impl Print, check: Result<usize, Fault>) -> io::Result<()> {
     match check {
-        Check::Passes(states) => show_two(rt, 0, states),
-        Check::TooLong => show_two(rt, 10, 0),
-        Check::Unfit(line) => show_two(rt, 12, line),
-        Check::NotReduced(symbol) => show_two(rt, 20, symbol),
-        Check::Ring(symbol) => show_two(rt, 21, symbol),
-        Check::Broken(condition, state) => {
+        Ok(states) => show_two(rt, 0, states),
+        Err(Fault::TooLong) => show_two(rt, 10, 0),
+        Err(Fault::Unfit(line)) => show_two(rt, 12, line),
+        Err(Fault::NotReduced(symbol)) => show_two(rt, 20, symbol),
+        Err(Fault::Ring(symbol)) => show_two(rt, 21, symbol),
+        Err(Fault::Broken(condition, state)) => {
             show_two(rt, 22, 0)?;
             show_two(rt, condition as usize, state)
         }

@@ -1,4 +1,6 @@
 -- The answers that can come out of the program, and their steps.
+use Rattle.std.specs.Prelude.{Ok, Err}
+use Rattle.table.specs.declared.Fault.{Fault}
 use Rattle.std.specs.Prelude.{ℕ, ◌≤◌, ◌≡◌, refl, List, [], ◌∷◌}
 use Rattle.std.proofs.Common.{arith, subst}
 use Rattle.std.proofs.lemmas.Bool.{false≢true}
@@ -7,7 +9,7 @@ use Rattle.theory.specs.Table.{has}
 use Rattle.theory.proofs.Table.Actions.{has-mem, mem_has}
 use Rattle.lines.specs.Basics.{impossible}
 use Rattle.table.specs.Check.{numbers}
-use Rattle.table.specs.declared.Check.{Check}
+use Rattle.table.specs.Check.{Check}
 use Rattle.sheet.specs.Reads.{Reads}
 use Rattle.judge.specs.Judge.{JudgesUpTo}
 use Rattle.judge.specs.Judge.Demands.{refusal_steps}
@@ -22,12 +24,12 @@ answers = 0 ∷ 1 ∷ 10 ∷ 11 ∷ 12 ∷ 20 ∷ 21 ∷ 22 ∷ 30 ∷ 31 ∷ 32
 -- the check's refusals are among them
 of_check : (c : Check) → ((numbers c).0 ≡ 0 → ⊥) → Mem (numbers c).0 answers
 unfolding numbers answers has
-of_check (Check.Passes m) n = absurd (n refl)
-of_check Check.TooLong n = has-mem answers 10 refl
-of_check (Check.Unfit m) n = has-mem answers 12 refl
-of_check (Check.NotReduced v) n = has-mem answers 20 refl
-of_check (Check.Ring v) n = has-mem answers 21 refl
-of_check (Check.Broken k s) n = has-mem answers 22 refl
+of_check (Ok m) n = absurd (n refl)
+of_check (Err Fault.TooLong) n = has-mem answers 10 refl
+of_check (Err (Fault.Unfit m)) n = has-mem answers 12 refl
+of_check (Err (Fault.NotReduced v)) n = has-mem answers 20 refl
+of_check (Err (Fault.Ring v)) n = has-mem answers 21 refl
+of_check (Err (Fault.Broken k s)) n = has-mem answers 22 refl
 
 -- so are the judge's answers
 of_judge : {limit : ℕ} {ns tail : List ℕ} {room : ℕ} {j : Judgement} → JudgesUpTo limit ns tail room j → Mem j.answer answers

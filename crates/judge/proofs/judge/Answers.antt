@@ -8,7 +8,7 @@ pub returns-in_default : goal.returns-in_default
 returns-in_default c =
     let a = c.args in
     let k = c.check_table-c in
-    check_into a.table.now a.tail.now a.room.now k.result c.numbers_of.result k.ensures c.in_default.not-Passes c.numbers_of.ensures
+    check_into a.table.now a.tail.now a.room.now k.result c.from.result k.ensures c.in_default.not-Ok c.from.ensures
 
 pub judge_tail-requires : goal.judge_tail-requires
-judge_tail-requires c = subst (Checks c.args.table.now) c.in-Passes.is c.check_table-c.ensures
+judge_tail-requires c = subst (Checks c.args.table.now) c.in-Ok.is c.check_table-c.ensures

@@ -1,4 +1,6 @@
 -- What a judgement is worth: demands 2 and 3 of every judgement that is no refusal, in one place.
+use Rattle.std.specs.Prelude.{Ok, Err}
+use Rattle.table.specs.declared.Fault.{Fault}
 use Rattle.std.specs.Prelude.{ℕ, ◌+◌, ◌*◌, ◌≤◌, ◌<◌, ◌≡◌, refl, Bool, true, false, List, [], length, eqb}
 use Rattle.std.proofs.Common.{arith, subst}
 use Rattle.theory.specs.Grammar.{Tokens, empty}
@@ -10,7 +12,7 @@ use Rattle.theory.specs.Demands.{Told}
 use Rattle.theory.proofs.Demands.{judgement, demand_2, demand_3, demand_3_nodes}
 use Rattle.lines.specs.Basics.{impossible}
 use Rattle.table.specs.Check.{numbers}
-use Rattle.table.specs.declared.Check.{Check}
+use Rattle.table.specs.Check.{Check}
 use Rattle.judge.specs.declared.Judgement.{Judgement}
 use Rattle.judge.specs.Judge.{words, Good, Ready, JudgesUpTo, Judges}
 use Rattle.judge.specs.Judge.Exact.{unique}
@@ -34,12 +36,12 @@ pub record Worth (ns tail : List ℕ) (j : Judgement) : Type 0 where
 -- what the check refuses has an answer above 1
 pub refused_high : (c : Check) → ((numbers c).0 ≡ 0 → ⊥) → 2 ≤ (numbers c).0
 unfolding numbers
-refused_high (Check.Passes m) n = absurd (n refl)
-refused_high Check.TooLong n = omega arith
-refused_high (Check.Unfit k) n = omega arith
-refused_high (Check.NotReduced v) n = omega arith
-refused_high (Check.Ring v) n = omega arith
-refused_high (Check.Broken k s) n = omega arith
+refused_high (Ok m) n = absurd (n refl)
+refused_high (Err Fault.TooLong) n = omega arith
+refused_high (Err (Fault.Unfit k)) n = omega arith
+refused_high (Err (Fault.NotReduced v)) n = omega arith
+refused_high (Err (Fault.Ring v)) n = omega arith
+refused_high (Err (Fault.Broken k s)) n = omega arith
 
 -- a judgement of the forest is worth that
 worth : {limit : ℕ} {ns tail : List ℕ} {room : ℕ} (t : Table) (j : Judgement) → Good ns t → Ready limit tail room t →

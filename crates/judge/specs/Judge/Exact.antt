@@ -1,4 +1,6 @@
 -- Every call has a judgement, and only one: that of the program.
+use Rattle.std.specs.Prelude.{Ok, Err}
+use Rattle.table.specs.declared.Fault.{Fault}
 use Rattle.std.specs.Prelude.{ℕ, suc, ◌≤◌, ◌≡◌, Bool, false, List, [], ◌∷◌, ◌++◌, ltb}
 use Rattle.std.proofs.Common.{arith, sym, ◌∙◌, subst}
 use Rattle.std.proofs.Math.Path.{refl, ap}
@@ -21,7 +23,7 @@ use Rattle.table.specs.Checks.{Answer, Checked}
 use Rattle.table.specs.Run.{checks}
 use Rattle.table.specs.Run.Computed.{passed}
 use Rattle.table.specs.Check.{Gets, Checks, numbers, told, check_outcome}
-use Rattle.table.specs.declared.Check.{Check}
+use Rattle.table.specs.Check.{Check}
 use Rattle.judge.specs.declared.Judgement.{Judgement}
 use Rattle.table.specs.Check.Exact.{got, gets, unread, only as only-check}
 use Rattle.judge.specs.Judge.{handed, words, Good, Strange, Ready, JudgesUpTo, Judges, first_strange, said, fuel, judge_tail, judge_as, outcome_up_to, judge_outcome}
@@ -159,9 +161,9 @@ module _ (limit : ℕ) (ns tail : List ℕ) (room : ℕ) where
   by_answer : (t : Table) (a : Answer) → Gets ns t a → JudgesUpTo limit ns tail room (judge_as limit t tail room a)
   unfolding judge_as told numbers
   by_answer t Answer.passes (f, c) = by_tail t (record { its_numbers = f; passes = passed c })
-  by_answer t (Answer.not-reduced v) g = JudgesUpTo.refused (Check.NotReduced v) (Checks.unreduced t v g) (λ e. omega arith)
-  by_answer t (Answer.ring v) g = JudgesUpTo.refused (Check.Ring v) (Checks.ringed t v g) (λ e. omega arith)
-  by_answer t (Answer.broken k s) g = JudgesUpTo.refused (Check.Broken k s) (Checks.broken t k s g) (λ e. omega arith)
+  by_answer t (Answer.not-reduced v) g = JudgesUpTo.refused (Err (Fault.NotReduced v)) (Checks.unreduced t v g) (λ e. omega arith)
+  by_answer t (Answer.ring v) g = JudgesUpTo.refused (Err (Fault.Ring v)) (Checks.ringed t v g) (λ e. omega arith)
+  by_answer t (Answer.broken k s) g = JudgesUpTo.refused (Err (Fault.Broken k s)) (Checks.broken t k s g) (λ e. omega arith)
 
   -- the relation holds of the program's judgement: there is one for every call
   pub holds : JudgesUpTo limit ns tail room (outcome_up_to limit ns tail room)
@@ -169,10 +171,10 @@ module _ (limit : ℕ) (ns tail : List ℕ) (room : ℕ) where
   holds = at (read_numbers ns) refl
     where
       at : (r : Lined) → read_numbers ns ≡ r → JudgesUpTo limit ns tail room (outcome_up_to limit ns tail room)
-      at Lined.over p = rw (p, outcome_up_to) (JudgesUpTo.refused Check.TooLong (Checks.over ((unread ns Lined.over p).0 refl)) (λ e. omega arith))
+      at Lined.over p = rw (p, outcome_up_to) (JudgesUpTo.refused (Err Fault.TooLong) (Checks.over ((unread ns Lined.over p).0 refl)) (λ e. omega arith))
       at (Lined.unfit n) p =
           let (l, s) = (unread ns (Lined.unfit n) p).1 n refl in
-          rw (p, outcome_up_to) (JudgesUpTo.refused (Check.Unfit n) (Checks.unfit n l s) (λ e. omega arith))
+          rw (p, outcome_up_to) (JudgesUpTo.refused (Err (Fault.Unfit n)) (Checks.unfit n l s) (λ e. omega arith))
       at (Lined.fine d) p = rw (p, outcome_up_to) (by_answer (table_of d) (checks (table_of d)) (gets ns d p))
 
 -- a judgement by the judge's own limit
@@ -186,7 +188,7 @@ unfolding judge_outcome
 judges_only ns tail room j h = only max_tail ns tail room j h
 
 -- where the check passes there is a table that passes, and the check's value is its count of states
-pub passing : {ns : List ℕ} {m : ℕ} → Checks ns (Check.Passes m) → (t : Table) × Good ns t × (count t ≡ m)
+pub passing : {ns : List ℕ} {m : ℕ} → Checks ns (Ok m) → (t : Table) × Good ns t × (count t ≡ m)
 passing (Checks.passes t (f, c)) = (t, record { its_numbers = f; passes = passed c }, refl)
 
 -- a tail within a lower limit is judged by that limit as by the higher one

@@ -1,4 +1,5 @@
 -- The judgement with the room: one relation of the judgement and of every word of the room afterwards, and one outcome only.
+use Rattle.std.specs.Prelude.{Ok}
 use Rattle.std.specs.Prelude.{ℕ, ◌≤◌, ◌<◌, ◌≡◌, List, length}
 use Rattle.std.proofs.Common.{arith, sym, ap, ◌∙◌}
 use Rattle.std.proofs.Math.Decide.{dec_lt}
@@ -9,7 +10,6 @@ use Rattle.theory.specs.Table.{Table, count}
 use Rattle.table.specs.Checks.{Checked}
 use Rattle.table.specs.Check.{Checks, numbers}
 use Rattle.table.specs.Check.Exact.{only as only-check}
-use Rattle.table.specs.declared.Check.{Check}
 use Rattle.judge.specs.declared.Judgement.{Judgement}
 use Rattle.judge.specs.Judge.{words, Good, Judges, judge_outcome, cleared, room_after}
 use Rattle.judge.specs.Judge.Exact.{judges, judges_only}
@@ -34,7 +34,7 @@ module _ (ns tail before : List ℕ) where
   unfolding room_after numbers
   room_cleared j h l t g =
       rw (ap (λ (x : Judgement). ltb x.answer 2) (judges_only ns tail (length before) j h) ∙ lt-ltb j.answer 2 l, room_after)
-      (rw (only-check ns (Check.Passes (count t)) (Checks.passes t (g.its_numbers, Checked.sound g.passes))) refl)
+      (rw (only-check ns (Ok (count t)) (Checks.passes t (g.its_numbers, Checked.sound g.passes))) refl)
 
   -- there is an outcome: the program's
   pub holds : JudgesInto ns tail before (judge_outcome ns tail (length before)) (room_after ns tail before)

@@ -14,7 +14,7 @@ use Rattle.table.specs.Checks.{Answer}
 use Rattle.table.specs.Run.{checks}
 use Rattle.table.specs.Run.Right.{checks-right}
 use Rattle.table.specs.Run.Computed.{only as only-answer}
-use Rattle.table.specs.declared.Check.{Check}
+use Rattle.table.specs.Check.{Check}
 use Rattle.table.specs.Check.{UnfitLine, missing, ends_early, no_fit, Stops, Gets, Checks, told, check_outcome}
 
 -- ---- what is told of lines that do not fit is so

@@ -5,9 +5,9 @@ use Rattle.input.proofs.within.too_many.Goals as goal
 pub returns-in_default : goal.returns-in_default
 returns-in_default c = let a = c.args in
     let k = c.check_table-c in
-    many_refused a.table.now a.limit k.result k.ensures c.numbers_of.result c.in_default.not-Passes c.numbers_of.ensures
+    many_refused a.table.now a.limit k.result k.ensures c.from.result c.in_default.not-Ok c.from.ensures
 
 pub returns : goal.returns
 returns c = let a = c.args in
     let k = c.check_table-c in
-    many_over a.table.now a.limit k.result k.ensures c.refusal.result _ c.in-Passes.is c.refusal.ensures
+    many_over a.table.now a.limit k.result k.ensures c.refusal.result _ c.in-Ok.is c.refusal.ensures
