@@ -1,11 +1,11 @@
 -- The reader's outcome as a relation, one case for each row of document 01's table of numbers, and what its slice holds after. `Reads.Exact` and
 -- `Reads.Slices` prove that of every sheet and every slice exactly one outcome holds: that of the executable `outcome` and `slice_after`.
-use Rattle.std.specs.Prelude.{ℕ, ◌≤◌, ◌<◌, ◌≡◌, true, false, List, [], ◌∷◌, ◌++◌, length}
+use Rattle.std.specs.Prelude.{ℕ, ◌≤◌, ◌<◌, ◌≡◌, true, false, List, [], ◌∷◌, ◌++◌, length, Result, Ok, Err}
 use Rattle.theory.specs.Table.{Table}
 use Rattle.lines.specs.Basics.{All}
 use Rattle.lines.specs.Lines.{Draft, start, is_end, fits, Front, flat}
 use Rattle.lines.specs.Ranges.{InRange, lines_of}
-use Rattle.sheet.specs.declared.Answer.{Answer}
+use Rattle.sheet.specs.declared.ReadError.{ReadError}
 use Rattle.sheet.specs.Sheet.{in_front, newline, print_line, print_from, print, Short, NoLf}
 use Rattle.lines.specs.Limits.{max_bytes}
 pub mod Exact
@@ -56,9 +56,9 @@ pub data ReadsInto (bs before : List ℕ) : ℕ × ℕ → List ℕ → Type 0 w
       ReadsInto bs before (0, length (flat (lines_of t))) (in_front (flat (lines_of t)) before)
 
 -- document 01's number and value of each answer
-unfoldable pub answer_of : Answer → ℕ × ℕ
-answer_of (Answer.Fit count) = (0, count)
-answer_of Answer.TooLong = (10, 0)
-answer_of (Answer.Form line) = (11, line)
-answer_of (Answer.Range line) = (12, line)
-answer_of (Answer.Short needed) = (13, needed)
+unfoldable pub answer_of : Result ℕ ReadError → ℕ × ℕ
+answer_of (Ok count) = (0, count)
+answer_of (Err ReadError.TooLong) = (10, 0)
+answer_of (Err (ReadError.Form line)) = (11, line)
+answer_of (Err (ReadError.Range line)) = (12, line)
+answer_of (Err (ReadError.Short needed)) = (13, needed)

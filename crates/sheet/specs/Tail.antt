@@ -1,11 +1,11 @@
 -- The line tail=.. of the judging program: its text, the numbers that it says, and what is told of it and left in a slice.
-use Rattle.std.specs.Prelude.{ℕ, ◌≤◌, ◌<◌, ◌≡◌, true, false, List, [], ◌∷◌, ◌++◌, length, leb}
+use Rattle.std.specs.Prelude.{ℕ, ◌≤◌, ◌<◌, ◌≡◌, true, false, List, [], ◌∷◌, ◌++◌, length, leb, Result, Ok, Err}
 use Rattle.std.proofs.Math.Option.{Option, none, some}
 use Rattle.lines.specs.Lines.Fits.{all}
 use Rattle.sheet.specs.Sheet.{newline, equals, print_numbers, Short, in_front}
 use Rattle.sheet.specs.Text.{max_word, Value, bad, has, keyed}
 pub use Rattle.sheet.specs.Text.{Words}
-use Rattle.sheet.specs.declared.TailLine.{TailLine}
+use Rattle.sheet.specs.declared.TailError.{TailError}
 pub mod Exact
 pub mod Telling
 pub mod Examples
@@ -27,12 +27,12 @@ tail_line xs = tail_text xs ++ (newline ∷ [])
 -- ---- what is told of it
 
 -- of a line and a slice what is told, and what the slice holds after: the tokens at its front, and in every other case what it held
-pub data ReadsTail (line before : List ℕ) : TailLine → List ℕ → Type 0 where
+pub data ReadsTail (line before : List ℕ) : Result ℕ TailError → List ℕ → Type 0 where
   tokens : (xs : List ℕ) → line ≡ tail_line xs → Words xs → length xs ≤ length before →
-      ReadsTail line before (TailLine.Tokens (length xs)) (in_front xs before)
-  many : (xs : List ℕ) → line ≡ tail_line xs → Words xs → length before < length xs → ReadsTail line before (TailLine.Many (length xs)) before
-  range : (xs : List ℕ) → line ≡ tail_line xs → Short xs → (Words xs → ⊥) → ReadsTail line before TailLine.Range before
-  form : ((xs : List ℕ) → Short xs → line ≡ tail_line xs → ⊥) → ReadsTail line before TailLine.Form before
+      ReadsTail line before (Ok (length xs)) (in_front xs before)
+  many : (xs : List ℕ) → line ≡ tail_line xs → Words xs → length before < length xs → ReadsTail line before (Err (TailError.Many (length xs))) before
+  range : (xs : List ℕ) → line ≡ tail_line xs → Short xs → (Words xs → ⊥) → ReadsTail line before (Err TailError.Range) before
+  form : ((xs : List ℕ) → Short xs → line ≡ tail_line xs → ⊥) → ReadsTail line before (Err TailError.Form) before
 
 -- ---- the same as a program
 
@@ -48,19 +48,19 @@ unfolding alone keyed
 tail_of bs = alone (keyed tail_key bs)
 
 -- what is told of such numbers before a slice is looked at
-unfoldable pub told_of : Option (List ℕ) → TailLine
+unfoldable pub told_of : Option (List ℕ) → Result ℕ TailError
 unfolding all
-told_of none = TailLine.Form
-told_of (some xs) = elim (all (λ x. leb x max_word) xs) [ true ↦ TailLine.Tokens (length xs) | false ↦ TailLine.Range ]
+told_of none = Err TailError.Form
+told_of (some xs) = elim (all (λ x. leb x max_word) xs) [ true ↦ Ok (length xs) | false ↦ Err TailError.Range ]
 
 -- what is told of them, and what a slice holds after
-unfoldable pub tail_into : Option (List ℕ) → List ℕ → TailLine × List ℕ
+unfoldable pub tail_into : Option (List ℕ) → List ℕ → Result ℕ TailError × List ℕ
 unfolding all
-tail_into none before = (TailLine.Form, before)
+tail_into none before = (Err TailError.Form, before)
 tail_into (some xs) before = elim (all (λ x. leb x max_word) xs) [
   | true ↦ elim (leb (length xs) (length before)) [
-    | true ↦ (TailLine.Tokens (length xs), in_front xs before)
-    | false ↦ (TailLine.Many (length xs), before)
+    | true ↦ (Ok (length xs), in_front xs before)
+    | false ↦ (Err (TailError.Many (length xs)), before)
   ]
-  | false ↦ (TailLine.Range, before)
+  | false ↦ (Err TailError.Range, before)
 ]

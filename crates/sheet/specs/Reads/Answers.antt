@@ -1,5 +1,5 @@
 -- From what the pass finds and keeps to the reader's outcome.
-use Rattle.std.specs.Prelude.{ℕ, ◌≤◌, ◌<◌, ◌≡◌}
+use Rattle.std.specs.Prelude.{ℕ, ◌≤◌, ◌<◌, ◌≡◌, Ok, Err}
 use Rattle.std.proofs.Common.{arith, sym, ◌∙◌, length-take}
 use Rattle.std.proofs.Math.Path.{refl, ap, subst}
 use mathlib.Core.List.{List, []}
@@ -13,12 +13,12 @@ use Rattle.sheet.specs.Scan.{scan_of, Kept}
 use Rattle.sheet.specs.Reads.{ReadsInto, answer_of}
 use Rattle.sheet.specs.Reads.Exact.{never_over}
 use Rattle.sheet.specs.Reads.Slices.{computed}
-use Rattle.sheet.specs.declared.Answer.{Answer}
+use Rattle.sheet.specs.declared.ReadError.{ReadError}
 use Rattle.sheet.specs.declared.scan.Scanned.{Scanned}
 
 module _ (bs before : List ℕ) where
   -- too many bytes
-  pub answer_long : max_bytes < length bs → ReadsInto bs before (answer_of Answer.TooLong) before
+  pub answer_long : max_bytes < length bs → ReadsInto bs before (answer_of (Err ReadError.TooLong)) before
   unfolding answer_of outcome slice_after read_sheet
   answer_long h =
       let e = lt-leb (length bs) max_bytes h in
@@ -30,7 +30,7 @@ module _ (bs before : List ℕ) where
     whole = rw (le-leb (length bs) max_bytes l, read_sheet) refl
 
     -- a bad line
-    pub answer_form : (line : ℕ) → Scanned.Bad line ≡ scan_of (sheet_at 0 [] start bs) → ReadsInto bs before (answer_of (Answer.Form line)) before
+    pub answer_form : (line : ℕ) → Scanned.Bad line ≡ scan_of (sheet_at 0 [] start bs) → ReadsInto bs before (answer_of (Err (ReadError.Form line))) before
     unfolding answer_of outcome slice_after scan_of
     answer_form line e = at (sheet_at 0 [] start bs) refl
       where
@@ -44,7 +44,7 @@ module _ (bs before : List ℕ) where
         at (Read.good ns d) p = let h : Scanned.Bad line ≡ Scanned.Good (length ns) = e ∙ ap scan_of p in never cc
 
     -- a line that does not fit
-    pub answer_range : (line : ℕ) → Scanned.Unfit line ≡ scan_of (sheet_at 0 [] start bs) → ReadsInto bs before (answer_of (Answer.Range line)) before
+    pub answer_range : (line : ℕ) → Scanned.Unfit line ≡ scan_of (sheet_at 0 [] start bs) → ReadsInto bs before (answer_of (Err (ReadError.Range line))) before
     unfolding answer_of outcome slice_after scan_of
     answer_range line e = at (sheet_at 0 [] start bs) refl
       where
@@ -91,7 +91,7 @@ module _ (bs before : List ℕ) where
           let a = ap (λ (x : List ℕ). length x) counted.held in let b = length-take count kept in let c = counted.how_many in omega arith
 
       -- no room for the numbers
-      pub answer_short : length before < count → ReadsInto bs before (answer_of (Answer.Short count)) before
+      pub answer_short : length before < count → ReadsInto bs before (answer_of (Err (ReadError.Short count))) before
       unfolding answer_of outcome slice_after
       answer_short h =
           let q = counted.how_many in
@@ -99,7 +99,7 @@ module _ (bs before : List ℕ) where
           computed bs before (13, count) before (rw (counted.read, outcome) (rw b (ap (λ (x : ℕ). (13, x)) (sym q)))) (rw (counted.read, slice_after) (rw b refl))
 
       -- the numbers are written
-      pub answer_fit : count ≤ length before → (after : List ℕ) → after ≡ in_front (take count kept) before → ReadsInto bs before (answer_of (Answer.Fit count)) after
+      pub answer_fit : count ≤ length before → (after : List ℕ) → after ≡ in_front (take count kept) before → ReadsInto bs before (answer_of (Ok count)) after
       unfolding answer_of outcome slice_after
       answer_fit h after f =
           let q = counted.how_many in

@@ -1,5 +1,5 @@
 -- The line tail=.. is read exactly as it is printed, and of every line and every slice one outcome holds at most.
-use Rattle.std.specs.Prelude.{ℕ, ◌≡◌, Bool, true, false, List, [], ◌∷◌, ◌++◌, length, leb}
+use Rattle.std.specs.Prelude.{ℕ, ◌≡◌, Bool, true, false, List, [], ◌∷◌, ◌++◌, length, leb, Result, Err}
 use Rattle.std.proofs.Common.{arith, sym, ap, ◌∙◌, le-leb, leb-true}
 use Rattle.std.proofs.Math.Path.{refl}
 use Rattle.std.proofs.Math.Option.{Option, none, some}
@@ -14,7 +14,7 @@ use Rattle.sheet.specs.Sheet.Forms.{is_text, numbers_text, text_cut, cut-whole, 
 use Rattle.sheet.specs.Text.{max_word, Value, bad, has, ended, keyed}
 use Rattle.sheet.specs.Text.Keyed.{keyed-whole}
 use Rattle.sheet.specs.Tail.{tail_key, tail_text, tail_line, Words, ReadsTail, tokens, many, range, form, alone, tail_of, tail_into}
-use Rattle.sheet.specs.declared.TailLine.{TailLine}
+use Rattle.sheet.specs.declared.TailError.{TailError}
 
 -- ---- the line
 
@@ -94,7 +94,7 @@ module _ (line before : List ℕ) where
   its_tail xs e h = ap tail_of e ∙ tail_read xs h
 
   -- what the relation allows is the program's outcome
-  pub only_tail : (r : TailLine) (after : List ℕ) → ReadsTail line before r after → tail_into (tail_of line) before ≡ (r, after)
+  pub only_tail : (r : Result ℕ TailError) (after : List ℕ) → ReadsTail line before r after → tail_into (tail_of line) before ≡ (r, after)
   unfolding tail_into
   only_tail r after (tokens xs e w h) =
       rw (its_tail xs e (words_short xs w)) (rw (words_test xs w, tail_into) (rw (le-leb (length xs) (length before) h) refl))
@@ -103,13 +103,13 @@ module _ (line before : List ℕ) where
   only_tail r after (range xs e s n) = rw (its_tail xs e s) (rw (wide_test xs n, tail_into) refl)
   only_tail r after (form n) = at (tail_of line) refl
     where
-      at : (o : Option (List ℕ)) → tail_of line ≡ o → tail_into (tail_of line) before ≡ (TailLine.Form, before)
+      at : (o : Option (List ℕ)) → tail_of line ≡ o → tail_into (tail_of line) before ≡ (Err TailError.Form, before)
       at none p = rw p refl
       at (some xs) p = let (e, s) = read_tail line xs p in absurd (n xs s e)
 
   -- any two outcomes that the relation allows are equal
-  pub unique_tail : (r r' : TailLine) (after after' : List ℕ) → ReadsTail line before r after → ReadsTail line before r' after' →
+  pub unique_tail : (r r' : Result ℕ TailError) (after after' : List ℕ) → ReadsTail line before r after → ReadsTail line before r' after' →
       (r ≡ r') × (after ≡ after')
   unique_tail r r' after after' p q =
       let e = sym (only_tail r after p) ∙ only_tail r' after' q in
-      (ap (λ (x : TailLine × List ℕ). x.0) e, ap (λ (x : TailLine × List ℕ). x.1) e)
+      (ap (λ (x : Result ℕ TailError × List ℕ). x.0) e, ap (λ (x : Result ℕ TailError × List ℕ). x.1) e)

@@ -1,5 +1,5 @@
 -- Laws of the pass that finds what a tail line says, and of what its answer means for the line and the slice.
-use Rattle.std.specs.Prelude.{ℕ, ◌+◌, ◌≤◌, ◌<◌, max, ◌≡◌, Bool, drop, get_or}
+use Rattle.std.specs.Prelude.{ℕ, ◌+◌, ◌≤◌, ◌<◌, max, ◌≡◌, Bool, drop, get_or, Result, Ok, Err}
 use Rattle.std.proofs.Common.{arith, ◌∙◌, drop_of_length-le}
 use Rattle.std.proofs.Math.Path.{refl, sym, ap, subst}
 use Rattle.std.proofs.Math.Bool.{true, false}
@@ -20,7 +20,7 @@ use Rattle.sheet.specs.Putting.{Puttable, PutAt}
 use Rattle.sheet.specs.Tail.{tail_key, Words, ReadsTail, tokens, many, range, form, alone, tail_of, told_of}
 use Rattle.sheet.specs.Tail.Exact.{tail_read, read_tail, alone-says, words_test, test_words, wide_test}
 use Rattle.sheet.specs.declared.text.Numeral.{Numeral}
-use Rattle.sheet.specs.declared.TailLine.{TailLine}
+use Rattle.sheet.specs.declared.TailError.{TailError}
 
 -- ---- the loop
 
@@ -49,13 +49,13 @@ module _ (s : List ℕ) (at i n top : ℕ) (t : Telling s at i n top) (v e : ℕ
 -- ---- what is told of a value
 
 -- it is not in its form
-pub tell_bad : (v : Value) → v ≡ bad → TailLine.Form ≡ told_of (alone v)
+pub tell_bad : (v : Value) → v ≡ bad → Err TailError.Form ≡ told_of (alone v)
 unfolding told_of alone
 tell_bad v e = rw e refl
 
 module _ (s xs : List ℕ) (e n top : ℕ) (t : Tallied n top xs) where
   -- bytes come after it
-  pub tell_more : e < length s → TailLine.Form ≡ told_of (alone (has xs (drop e s)))
+  pub tell_more : e < length s → Err TailError.Form ≡ told_of (alone (has xs (drop e s)))
   unfolding told_of alone
   tell_more h = let (b, more, p) = drop-some e s h in rw p refl
 
@@ -65,14 +65,14 @@ module _ (s xs : List ℕ) (e n top : ℕ) (t : Tallied n top xs) where
     none_after = rw (drop_of_length-le s h) refl
 
     -- a number is too large
-    pub tell_wide : max_word < top → TailLine.Range ≡ told_of (alone (has xs (drop e s)))
+    pub tell_wide : max_word < top → Err TailError.Range ≡ told_of (alone (has xs (drop e s)))
     unfolding told_of
     tell_wide l = rw none_after (rw (wide_test xs (t.wide l), told_of) refl)
 
     -- all numbers are tokens
-    pub tell_small : top ≤ max_word → TailLine.Tokens n ≡ told_of (alone (has xs (drop e s)))
+    pub tell_small : top ≤ max_word → Ok n ≡ told_of (alone (has xs (drop e s)))
     unfolding told_of
-    tell_small l = rw none_after (rw (words_test xs (t.small l), told_of) (ap (λ (k : ℕ). TailLine.Tokens k) t.counted))
+    tell_small l = rw none_after (rw (words_test xs (t.small l), told_of) (ap (λ (k : ℕ). Ok k) t.counted))
 
 -- ---- the key
 
@@ -91,60 +91,60 @@ tail_behind line at h = ap alone (keyed-value tail_key line (drop at line) refl 
 
 module _ (line before : List ℕ) where
   -- not in its form
-  pub answer_form : tail_of line ≡ none → ReadsTail line before TailLine.Form before
+  pub answer_form : tail_of line ≡ none → ReadsTail line before (Err TailError.Form) before
   answer_form e = form (λ xs s p. none-some xs (sym e ∙ ap tail_of p ∙ tail_read xs s))
     where
       none-some : (xs : List ℕ) → ◌≡◌ {A = Option (List ℕ)} none (some xs) → ⊥
       none-some xs e = never cc
 
   -- a refusal
-  pub answer_refused : (r : TailLine) → r ≡ told_of (tail_of line) → ((n : ℕ) → r ≡ TailLine.Tokens n → ⊥) → ReadsTail line before r before
+  pub answer_refused : (r : TailError) → Err r ≡ told_of (tail_of line) → ReadsTail line before (Err r) before
   unfolding told_of
-  answer_refused r e h = at (tail_of line) refl
+  answer_refused r e = at (tail_of line) refl
     where
-      at : (o : Option (List ℕ)) → tail_of line ≡ o → ReadsTail line before r before
+      at : (o : Option (List ℕ)) → tail_of line ≡ o → ReadsTail line before (Err r) before
       at none p = subst (λ x. ReadsTail line before x before) (sym (e ∙ ap told_of p)) (answer_form p)
       at (some xs) p = by (all (λ x. leb x max_word) xs) refl
         where
-          by : (b : Bool) → all (λ x. leb x max_word) xs ≡ b → ReadsTail line before r before
-          by true q = absurd (h (length xs) (e ∙ ap told_of p ∙ rw (q, told_of) refl))
+          by : (b : Bool) → all (λ x. leb x max_word) xs ≡ b → ReadsTail line before (Err r) before
+          by true q = let h : ◌≡◌ {A = Result ℕ TailError} (Err r) (Ok (length xs)) = e ∙ ap told_of p ∙ rw (q, told_of) refl in never cc
           by false q =
               let (u, s) = read_tail line xs p in
               subst (λ x. ReadsTail line before x before) (sym (e ∙ ap told_of p ∙ rw (q, told_of) refl))
               (range xs u s (λ w. never (let z = sym q ∙ words_test xs w in cc)))
 
-  module _ (n : ℕ) (e : TailLine.Tokens n ≡ told_of (tail_of line)) where
+  module _ (n : ℕ) (e : Ok n ≡ told_of (tail_of line)) where
     -- the tokens
     its_tokens : (xs : List ℕ) × (tail_of line ≡ some xs) × Words xs × (n ≡ length xs)
     unfolding told_of
     its_tokens = at (tail_of line) refl
       where
         at : (o : Option (List ℕ)) → tail_of line ≡ o → (xs : List ℕ) × (tail_of line ≡ some xs) × Words xs × (n ≡ length xs)
-        at none p = let h : TailLine.Tokens n ≡ TailLine.Form = e ∙ ap told_of p in never cc
+        at none p = let h : ◌≡◌ {A = Result ℕ TailError} (Ok n) (Err TailError.Form) = e ∙ ap told_of p in never cc
         at (some xs) p = by (all (λ x. leb x max_word) xs) refl
           where
             by : (b : Bool) → all (λ x. leb x max_word) xs ≡ b → (xs : List ℕ) × (tail_of line ≡ some xs) × Words xs × (n ≡ length xs)
             by true q =
-                let h : TailLine.Tokens n ≡ TailLine.Tokens (length xs) = e ∙ ap told_of p ∙ rw (q, told_of) refl in
+                let h : ◌≡◌ {A = Result ℕ TailError} (Ok n) (Ok (length xs)) = e ∙ ap told_of p ∙ rw (q, told_of) refl in
                 (xs, p, test_words xs q, cc)
-            by false q = let h : TailLine.Tokens n ≡ TailLine.Range = e ∙ ap told_of p ∙ rw (q, told_of) refl in never cc
+            by false q = let h : ◌≡◌ {A = Result ℕ TailError} (Ok n) (Err TailError.Range) = e ∙ ap told_of p ∙ rw (q, told_of) refl in never cc
 
     -- more than the slice holds
-    pub answer_many : length before < n → ReadsTail line before (TailLine.Many n) before
+    pub answer_many : length before < n → ReadsTail line before (Err (TailError.Many n)) before
     answer_many h =
         let (xs, p, w, c) = its_tokens in
-        subst (λ (k : ℕ). ReadsTail line before (TailLine.Many k) before) (sym c) (many xs (read_tail line xs p).0 w (omega arith))
+        subst (λ (k : ℕ). ReadsTail line before (Err (TailError.Many k)) before) (sym c) (many xs (read_tail line xs p).0 w (omega arith))
 
     -- there is room for them: they are written
     answer_tokens : (xs held : List ℕ) → tail_of line ≡ some xs → Words xs → n ≡ length xs → n ≤ length before → held ≡ in_front xs before →
-        ReadsTail line before (TailLine.Tokens n) held
+        ReadsTail line before (Ok n) held
     answer_tokens xs held p w c h q =
-        subst (ReadsTail line before (TailLine.Tokens n)) (sym q)
-        (subst (λ (k : ℕ). ReadsTail line before (TailLine.Tokens k) (in_front xs before)) (sym c)
+        subst (ReadsTail line before (Ok n)) (sym q)
+        (subst (λ (k : ℕ). ReadsTail line before (Ok k) (in_front xs before)) (sym c)
         (tokens xs (read_tail line xs p).0 w (omega arith)))
 
     -- none at all
-    pub answer_none : n ≡ 0 → ReadsTail line before (TailLine.Tokens n) before
+    pub answer_none : n ≡ 0 → ReadsTail line before (Ok n) before
     answer_none z = let (xs, p, w, c) = its_tokens in answer_tokens xs before p w c (omega arith) (at xs (sym c ∙ z))
       where
         at : (xs : List ℕ) → length xs ≡ 0 → before ≡ in_front xs before
@@ -167,7 +167,7 @@ module _ (line before : List ℕ) where
           }
 
       -- they are written
-      pub answer_written : (next count : ℕ) (held : List ℕ) → PutAt line at 0 before next count held → ReadsTail line before (TailLine.Tokens n) held
+      pub answer_written : (next count : ℕ) (held : List ℕ) → PutAt line at 0 before next count held → ReadsTail line before (Ok n) held
       answer_written next count held t =
           let (xs, p, w, c) = its_tokens in
           let g : has t.numbers (drop next line) ≡ has xs [] = sym t.value ∙ alone-says (value_of (drop at line)) xs (sym k ∙ p) in
