@@ -1,7 +1,7 @@
 -- The judge: answer, value and steps as a relation, one case for each row of document 01's table of numbers, and as a program; and the room
 -- afterwards. `Judge.Exact` proves that exactly one judgement holds: the program's. `Judge.Demands` says what a judgement is
 -- worth. `Judge.Into` adds the room.
-use Rattle.std.specs.Prelude.{Err}
+use Rattle.std.specs.Prelude.{Result, Err}
 use Rattle.table.specs.declared.Fault.{Fault}
 use Rattle.std.specs.Prelude.{ℕ, suc, ◌+◌, ◌*◌, ◌≤◌, ◌<◌, ◌≡◌, true, false, List, [], ◌∷◌, ◌++◌, length, drop, replicate, ltb, leb}
 use Rattle.std.proofs.Math.Option.{Option, none, some}
@@ -16,6 +16,8 @@ use Rattle.table.specs.Checks.{Answer}
 use Rattle.table.specs.Run.{checks}
 use Rattle.table.specs.Check.{Checks, numbers, told, check_outcome}
 use Rattle.table.specs.Check.{Check}
+use Rattle.sheet.specs.Reads.{answer_of}
+use Rattle.sheet.specs.declared.ReadError.{ReadError}
 use Rattle.judge.specs.declared.Judgement.{Judgement}
 pub mod Exact
 pub mod Demands
@@ -28,6 +30,10 @@ refusal a v = record { answer = a; value = v; steps = 0 }
 -- the check's answer handed out as a judgement
 abbrev pub handed : Check → Judgement
 handed c = refusal (numbers c).0 (numbers c).1
+
+-- the reader's answer handed out as a judgement
+abbrev pub handed_read : Result ℕ ReadError → Judgement
+handed_read a = refusal (answer_of a).0 (answer_of a).1
 
 -- 32-bit words of room for n tokens with m states
 abbrev pub words : ℕ → ℕ → ℕ

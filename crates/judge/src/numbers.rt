@@ -3,6 +3,7 @@ ghost use Rattle.judge.specs.Judge.{refusal};
 ghost use Rattle.std.specs.Prelude.{◌≡◌};
 
 use crate::Judgement;
+use sheet::ReadError;
 use table::Fault;
 
 // A refusal: no steps.
@@ -44,6 +45,23 @@ impl From<Result<usize, Fault>> for Judgement {
         match check {
             Ok(states) => refusal(0, states),
             Err(fault) => Judgement::from(fault),
+        }
+    }
+}
+
+// A sheet's refusal by the reader handed out as a judgement.
+impl From<ReadError> for Judgement {
+    ghost use Rattle.std.specs.Prelude.{Err};
+    ghost use Rattle.judge.specs.Judge.{handed_read};
+
+    ghost from_gives = { λ error j. j ≡ handed_read (Err error) };
+
+    fn from(error: ReadError) -> Judgement {
+        match error {
+            ReadError::TooLong => refusal(10, 0),
+            ReadError::Form(line) => refusal(11, line),
+            ReadError::Range(line) => refusal(12, line),
+            ReadError::Short(needed) => refusal(13, needed),
         }
     }
 }
