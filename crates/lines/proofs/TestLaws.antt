@@ -1,4 +1,4 @@
--- Laws on the tests of a line: a sum compared by a difference, and tests over a list, one member at a time.
+-- Laws on the tests of a line: the library's tests over a list, and look-ahead sets one member at a time.
 use Prim.Native.Nat.{ℕ, zero, suc, ◌+◌, ◌-◌, ◌≤◌, ◌<◌}
 use native.Mathlib.Omega.{arith}
 use native.Mathlib.Decide.{dec_le}
@@ -6,63 +6,102 @@ use native.Mathlib.Numerals.{add-one}
 use mathlib.Core.Path.{◌≡◌, refl, sym, ap, ◌∙◌}
 use mathlib.Core.Bool.{Bool, true, false, ◌&&◌, and-true, and-false}
 use mathlib.Core.List.{List, [], ◌∷◌}
-use lib.ListN.{length, get_or, take, drop, length-drop}
-use lib.Seq.{take_all, drop-cons, drop-length}
-use lib.Dec.{leb, leb-zero}
-use borrow.Author.Tests.{leb-true, leb-false, le-leb, lt-leb, ne_eqb}
-use Rattle.lines.specs.Lines.Fits.{all, rises_from, rises, is_symbol, is_nonterm, is_ahead, ahead_fits}
-
--- ---- tests
-
--- x is at most t + n exactly if it is at most n above t
-by_difference : (t n x : ℕ) → t ≤ x → leb (x - t) n ≡ leb x (t + n)
-by_difference t n x h = go (leb (x - t) n) refl
-  where
-    go : (b : Bool) → leb (x - t) n ≡ b → b ≡ leb x (t + n)
-    go true p = let q = leb-true (x - t) n p in sym (le-leb x (t + n) (omega arith))
-    go false p = let q = leb-false (x - t) n p in sym (lt-leb x (t + n) (omega arith))
-
--- a number above the end mark is a symbol, and a nonterminal, if it is at most n above it
-pub symbol_above : (t n x : ℕ) → t < x → leb (x - t) n ≡ is_symbol t n x
-symbol_above t n x h = rw (ne_eqb x t (λ e. omega arith), and-true (leb x (t + n))) (by_difference t n x (omega arith))
-
--- the same of a nonterminal
-pub nonterm_above : (t n x : ℕ) → t < x → leb (x - t) n ≡ is_nonterm t n x
-nonterm_above t n x h = rw (le-leb (suc t) x h) (by_difference t n x (omega arith))
+use lib.ListN.{length, get_or, take, drop}
+use lib.Seq.{drop-cons, drop-length}
+use lib.Dec.{leb, ltb, leb-zero}
+use Rattle.std.specs.List.{list_all, IsAllAdjacentAnswer}
+use borrow.Author.Tests.{leb-true, ltb-true, le-leb, lt-leb}
+use Rattle.std.proofs.lemmas.Bool.{and_parts}
+use Rattle.std.proofs.lemmas.List.{get_or_default, take_rest}
+use Rattle.lines.specs.Lines.Fits.{all, rises_from, rises, is_ahead, ahead_fits}
 
 -- ---- a member of a list
 
 -- inside the list the default does not matter
 pub inside : (l : List ℕ) (i d e : ℕ) → i < length l → get_or l i d ≡ get_or l i e
-inside [] i d e h = let z : ⊥ = omega arith in absurd z
-inside (x ∷ l) zero d e h = refl
-inside (x ∷ l) (suc i) d e h = inside l i d e (omega arith)
+inside l i d e h = get_or_default l i d e h
 
 -- a part up to the end is the rest
 pub part_rest : (k : ℕ) (l : List ℕ) → take (length l - k) (drop k l) ≡ drop k l
-part_rest k l = take_all (length l - k) (drop k l) (let e = length-drop k l in omega arith)
+part_rest k l = take_rest l k
 
 -- ---- every member passes
 
--- one member more
-all_more : (f : ℕ → Bool) (s : List ℕ) (i : ℕ) → i < length s → all f (drop i s) ≡ f (get_or s i 0) && all f (drop (i + 1) s)
+-- the library's test of every member is the specification's
+pub all-listed : (f : ℕ → Bool) (s : List ℕ) → list_all f s ≡ all f s
 unfolding all
-all_more f s i h = rw (add-one i, drop-cons s i 0 h)
-
--- it fails
-pub all-fails : (f : ℕ → Bool) (s : List ℕ) (i : ℕ) → i < length s → f (get_or s i 0) ≡ false → all f (drop i s) ≡ false
-all-fails f s i h e = all_more f s i h ∙ ap (λ (b : Bool). b && all f (drop (i + 1) s)) e
-
--- it passes
-pub all-passes : (f : ℕ → Bool) (s : List ℕ) (i : ℕ) → i < length s → f (get_or s i 0) ≡ true → all f (drop i s) ≡ all f (drop (i + 1) s)
-all-passes f s i h e = all_more f s i h ∙ ap (λ (b : Bool). b && all f (drop (i + 1) s)) e
-
--- none is left
-pub all_done : (f : ℕ → Bool) (s : List ℕ) (i : ℕ) → i ≡ length s → all f (drop i s) ≡ true
-unfolding all
-all_done f s i e = rw (e, drop-length s)
+all-listed f [] = refl
+all-listed f (x ∷ s) = ap (λ (b : Bool). f x && b) (all-listed f s)
 
 -- ---- look-ahead sets
+
+-- a list rises where each member is below the next
+rises_all : (x : ℕ) (ys : List ℕ) →
+    ((k d : ℕ) → k + 1 < length (x ∷ ys) → true ≡ ltb (get_or (x ∷ ys) k d) (get_or (x ∷ ys) (k + 1) d)) →
+    rises_from x ys ≡ true
+unfolding rises_from
+rises_all x [] h = refl
+rises_all x (y ∷ ys) h =
+    rw (← h 0 0 (omega arith)) (rises_all y ys (λ k d l. rw add-one (rw add-one at (h (suc k) d (omega arith)))))
+
+-- and not where one is not below the next
+rises_not : (x : ℕ) (ys : List ℕ) (k : ℕ) → k + 1 < length (x ∷ ys) →
+    false ≡ ltb (get_or (x ∷ ys) k 0) (get_or (x ∷ ys) (k + 1) 0) → rises_from x ys ≡ false
+unfolding rises_from
+rises_not x [] k l e = absurd (omega arith)
+rises_not x (y ∷ ys) zero l e = rw (← e) refl
+rises_not x (y ∷ ys) (suc k) l e = rw (rises_not y ys k (omega arith) (rw add-one (rw add-one at e))) (and-false (ltb x y))
+
+-- whether each member is below the next tells whether the list rises
+rises_told : (xs : List ℕ) (r : Bool) → IsAllAdjacentAnswer (λ x y b. b ≡ ltb x y) xs r → r ≡ rises xs
+unfolding rises
+rises_told [] true h = refl
+rises_told [] false (k, l, h) = absurd (omega arith)
+rises_told (x ∷ ys) true h = sym (rises_all x ys h)
+rises_told (x ∷ ys) false (k, l, h) = sym (rises_not x ys k l (h 0))
+
+-- the last member, where there is one, is a kind or the end mark
+abbrev pub last_in : ℕ → List ℕ → Bool
+last_in t [] = true
+last_in t (x ∷ xs) = is_ahead t (get_or (x ∷ xs) (length xs) 0)
+
+-- a number below a kind or the end mark is one too
+below_ahead : (t x y : ℕ) (ys : List ℕ) → x < y →
+    (is_ahead t x && all (is_ahead t) (y ∷ ys)) ≡ all (is_ahead t) (y ∷ ys)
+unfolding all
+below_ahead t x y ys l = go (all (is_ahead t) (y ∷ ys)) refl
+  where
+    go : (b : Bool) → all (is_ahead t) (y ∷ ys) ≡ b →
+        (is_ahead t x && all (is_ahead t) (y ∷ ys)) ≡ all (is_ahead t) (y ∷ ys)
+    go true p =
+        let k = leb-true y t (and_parts (is_ahead t y) (all (is_ahead t) ys) p).0 in
+        rw (le-leb x t (omega arith)) refl
+    go false p = rw p (and-false (is_ahead t x))
+
+-- of a list that rises the last member tells for all
+last_from : (t x : ℕ) (ys : List ℕ) → rises_from x ys ≡ true → all (is_ahead t) (x ∷ ys) ≡ last_in t (x ∷ ys)
+unfolding all rises_from
+last_from t x [] u = and-true (leb x t)
+last_from t x (y ∷ ys) u =
+    let (p, q) = and_parts (ltb x y) (rises_from y ys) u in
+    below_ahead t x y ys (ltb-true x y p) ∙ last_from t y ys q
+
+last_tells : (t : ℕ) (xs : List ℕ) → rises xs ≡ true → ahead_fits t xs ≡ last_in t xs
+unfolding all rises
+last_tells t [] u = refl
+last_tells t (x ∷ ys) u =
+    ap (λ (b : Bool). all (is_ahead t) (x ∷ ys) && b) u ∙ and-true (all (is_ahead t) (x ∷ ys)) ∙ last_from t x ys u
+
+-- where each member is below the next, the last tells whether the set fits
+pub rising_told : (t : ℕ) (xs : List ℕ) (r : Bool) → IsAllAdjacentAnswer (λ x y b. b ≡ ltb x y) xs r → r ≡ true →
+    ahead_fits t xs ≡ last_in t xs
+rising_told t xs r h e = last_tells t xs (sym (rises_told xs r h) ∙ e)
+
+-- and where one is not, the set does not fit
+pub falling_told : (t : ℕ) (xs : List ℕ) (r : Bool) → IsAllAdjacentAnswer (λ x y b. b ≡ ltb x y) xs r → r ≡ false →
+    ahead_fits t xs ≡ false
+falling_told t xs r h e =
+    ap (λ (b : Bool). all (is_ahead t) xs && b) (sym (rises_told xs r h) ∙ e) ∙ and-false (all (is_ahead t) xs)
 
 -- each member is above the one before it, the first at least the number
 unfoldable pub rises_at : ℕ → List ℕ → Bool
@@ -123,15 +162,3 @@ module _ (t least : ℕ) (s : List ℕ) (i : ℕ) where
   pub none_left : i ≡ length s → ahead_from t least (drop i s) ≡ leb least (suc t)
   unfolding all rises_at
   none_left e = rw (e, drop-length s) (and-true (leb least (suc t)))
-
-  -- and there was none
-  pub ahead_none : i ≡ length s → least ≡ 0 → ahead_from t least (drop i s) ≡ true
-  ahead_none e z = none_left e ∙ le-leb least (suc t) (omega arith)
-
-  -- and the last was below the number
-  pub ahead_last : i ≡ length s → (least ≡ 0 → ⊥) → ahead_from t least (drop i s) ≡ leb (least - 1) t
-  ahead_last e z = none_left e ∙ by (dec_le least (suc t))
-    where
-      by : Dec (least ≤ suc t) → leb least (suc t) ≡ leb (least - 1) t
-      by (yes k) = le-leb least (suc t) k ∙ sym (le-leb (least - 1) t (omega arith))
-      by (no k) = lt-leb least (suc t) (omega arith) ∙ sym (lt-leb (least - 1) t (omega arith))

@@ -1,6 +1,6 @@
 -- What the code does with a line: the limits as values, the shape of what was accepted, and what one line's numbers make of it.
 -- A shape keeps of the automaton's draft (`Lines`) only what the tests of the next lines ask; `Shape.Shaped` proves that it is enough.
-use Rattle.std.specs.Prelude.{ℕ, zero, suc, Bool, true, false, ◌&&◌, List, length, take, set, ltb, leb}
+use Rattle.std.specs.Prelude.{ℕ, zero, suc, Bool, true, false, ◌&&◌, List, length, take, set, ltb, leb, Option, Some, None}
 use Rattle.lines.specs.Limits.{max_terms, max_nonterms, max_rules, max_right, max_states, max_items, max_gos, max_numbers, max_bytes, max_tail, stride, max_line}
 use Rattle.lines.specs.Lines.Fits.{at, fits_one, fits_rule, fits_state, fits_item, fits_go}
 use Rattle.lines.specs.Lines.{less}
@@ -8,8 +8,6 @@ use Rattle.lines.specs.declared.shape.Limits.{Limits}
 use Rattle.lines.specs.declared.shape.Due.{Due}
 use Rattle.lines.specs.declared.shape.Due.TheVariants.{Terms, Nonterms, Rules, Rule, States, State, Item, Go, End}
 use Rattle.lines.specs.declared.shape.Shape.{Shape}
-use Rattle.lines.specs.declared.line.Accepted.{Accepted}
-use Rattle.lines.specs.declared.line.Accepted.TheVariants.{Next, Unfit}
 pub mod Accepting
 pub mod Shaped
 
@@ -119,10 +117,10 @@ next_shape s xs = elim s.due [
   | End ↦ s
 ]
 
--- the next shape, or that the line is unfit
-unfoldable pub accepted : Shape → List ℕ → List ℕ → Accepted
+-- the next shape, or none where the line is unfit
+unfoldable pub accepted : Shape → List ℕ → List ℕ → Option Shape
 unfolding fits_due next_shape
-accepted s ls xs = elim (fits_shape s ls xs) [ true ↦ Next (next_shape s xs) | false ↦ Unfit ]
+accepted s ls xs = elim (fits_shape s ls xs) [ true ↦ Some (next_shape s xs) | false ↦ None ]
 
 -- the lengths with that of a rule line set at the rule's number; other lines leave them
 unfoldable pub lengths_with : Shape → List ℕ → List ℕ → List ℕ

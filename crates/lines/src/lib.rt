@@ -7,5 +7,4 @@ mod next; // next.rt: the shape that comes after a line
 mod line; // line.rt: one line's numbers taken in
 
 pub use fits::{fits_go, fits_item_of, fits_state};
-pub use line::{Accepted, accept, line_fits, take_in};
 pub use shape::{Due, Limits, Shape};

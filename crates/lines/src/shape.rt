@@ -3,7 +3,7 @@ ghost use Rattle.std.specs.Prelude.{◌≡◌};
 ghost use Rattle.lines.specs.Shape.{limits, start_shape};
 
 // Which line is due.
-#[derive(Clone, Copy)]
+#[derive(Clone, Copy, Debug, PartialEq, Eq)]
 pub enum Due {
     Terms,
     Nonterms,
@@ -17,7 +17,7 @@ pub enum Due {
 }
 
 // What the lines so far said. The lengths of the rules' right sides stand beside it, in a lent array.
-#[derive(Clone, Copy)]
+#[derive(Clone, Copy, Debug, PartialEq, Eq)]
 pub struct Shape {
     pub due: Due,
     pub terms: usize,
@@ -36,7 +36,7 @@ pub struct Shape {
 }
 
 // The limits as values.
-#[derive(Clone, Copy)]
+#[derive(Clone, Copy, Debug, PartialEq, Eq)]
 pub struct Limits {
     pub terms: usize,
     pub nonterms: usize,

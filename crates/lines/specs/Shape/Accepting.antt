@@ -1,5 +1,5 @@
 -- What `accepted` and `lengths_after` answer, said by whether the line fits; and what is known of a rule line that fits.
-use Rattle.std.specs.Prelude.{ℕ, suc, ◌<◌, ◌≡◌, Bool, false, ◌&&◌, List, length, set, ltb}
+use Rattle.std.specs.Prelude.{ℕ, suc, ◌<◌, ◌≡◌, Bool, false, ◌&&◌, List, length, set, ltb, Some, None}
 use Rattle.std.proofs.Math.Path.{refl}
 use Rattle.std.proofs.Math.Bool.{true}
 use Rattle.std.proofs.Common.{ltb-true}
@@ -13,11 +13,10 @@ use Rattle.lines.specs.Ranges.Tests.{within-says}
 use Rattle.lines.specs.Shape.{fits_due, fits_shape, next_shape, accepted, lengths_with, lengths_after}
 use Rattle.lines.specs.declared.shape.Due.TheVariants.{Rule}
 use Rattle.lines.specs.declared.shape.Shape.{Shape}
-use Rattle.lines.specs.declared.line.Accepted.TheVariants.{Next, Unfit}
 
 module _ (s : Shape) (ls xs : List ℕ) where
   -- a line that fits is accepted, and its length is kept
-  pub fit_next : fits_shape s ls xs ≡ true → accepted s ls xs ≡ Next (next_shape s xs)
+  pub fit_next : fits_shape s ls xs ≡ true → accepted s ls xs ≡ Some (next_shape s xs)
   unfolding accepted
   fit_next p = rw (p, accepted) refl
 
@@ -26,7 +25,7 @@ module _ (s : Shape) (ls xs : List ℕ) where
   fit_after p = rw (p, lengths_after) refl
 
   -- a line that does not fit changes nothing
-  pub misfit_unfit : fits_shape s ls xs ≡ false → accepted s ls xs ≡ Unfit
+  pub misfit_unfit : fits_shape s ls xs ≡ false → accepted s ls xs ≡ None
   unfolding accepted
   misfit_unfit p = rw (p, accepted) refl
 
@@ -35,14 +34,14 @@ module _ (s : Shape) (ls xs : List ℕ) where
   misfit_after p = rw (p, lengths_after) refl
 
   -- the answer tells whether the line fits
-  pub next_fit : (s' : Shape) → accepted s ls xs ≡ Next s' → (fits_shape s ls xs ≡ true) × (next_shape s xs ≡ s')
+  pub next_fit : (s' : Shape) → accepted s ls xs ≡ Some s' → (fits_shape s ls xs ≡ true) × (next_shape s xs ≡ s')
   next_fit s' e = go (fits_shape s ls xs) refl
     where
       go : (b : Bool) → fits_shape s ls xs ≡ b → (fits_shape s ls xs ≡ true) × (next_shape s xs ≡ s')
       go true p = let q = fit_next p in (p, cc)
       go false p = let q = misfit_unfit p in never cc
 
-  pub unfit_misfit : accepted s ls xs ≡ Unfit → fits_shape s ls xs ≡ false
+  pub unfit_misfit : accepted s ls xs ≡ None → fits_shape s ls xs ≡ false
   unfit_misfit e = go (fits_shape s ls xs) refl
     where
       go : (b : Bool) → fits_shape s ls xs ≡ b → fits_shape s ls xs ≡ false

@@ -1,6 +1,6 @@
 -- A shape, with the lengths beside it, stands for a draft of the automaton: at the start, and after every line.
 -- What a loop over lines cites: `start-shaped`, `step_next`, `step_unfit`, `due-same`.
-use Rattle.std.specs.Prelude.{ℕ, zero, suc, ◌<◌, ◌≡◌, refl, Bool, true, false, ◌&&◌, List, [], ◌∷◌, ◌++◌, length, take, set, ltb, leb}
+use Rattle.std.specs.Prelude.{ℕ, zero, suc, ◌<◌, ◌≡◌, refl, Bool, true, false, ◌&&◌, List, [], ◌∷◌, ◌++◌, length, take, set, ltb, leb, Some, None}
 use Rattle.std.proofs.Common.{arith, sym, ap, ◌∙◌, subst, length-set, length-append, take-suc-set, lt-ltb}
 use Rattle.std.proofs.Math.Bool.{and-true}
 use Rattle.std.proofs.Math.Option.{none, some}
@@ -19,7 +19,6 @@ use Rattle.lines.specs.Shape.Accepting.{fit_after, misfit_after, next_fit, unfit
 use Rattle.lines.specs.declared.shape.Due.{Due}
 use Rattle.lines.specs.declared.shape.Due.TheVariants.{Terms, Nonterms, Rules, Rule, States, State, Item, Go, End}
 use Rattle.lines.specs.declared.shape.Shape.{Shape}
-use Rattle.lines.specs.declared.line.Accepted.TheVariants.{Next, Unfit}
 
 -- ---- what a shape keeps of a draft
 
@@ -254,7 +253,7 @@ unfolding above
 start-shaped ls h = record { same = refl; lengths = refl; long = h; bounded = start-bounded }
 
 -- a line that is accepted fits the draft, and the next shape stands for the next draft
-pub step_next : {s : Shape} {ls : List ℕ} {d : Draft} (xs : List ℕ) {s' : Shape} → Shaped s ls d → accepted s ls xs ≡ Next s' →
+pub step_next : {s : Shape} {ls : List ℕ} {d : Draft} (xs : List ℕ) {s' : Shape} → Shaped s ls d → accepted s ls xs ≡ Some s' →
     (fits d xs ≡ true) × (accept d xs ≡ some (next d xs)) × Shaped s' (lengths_after s ls xs) (next d xs)
 step_next {s} {ls} {d} xs {s'} h e =
     let (f, g) = next_fit s ls xs s' e in
@@ -271,7 +270,7 @@ step_next {s} {ls} {d} xs {s'} h e =
     )
 
 -- a line that is unfit does not fit the draft, and leaves the lengths
-pub step_unfit : {s : Shape} {ls : List ℕ} {d : Draft} (xs : List ℕ) → Shaped s ls d → accepted s ls xs ≡ Unfit →
+pub step_unfit : {s : Shape} {ls : List ℕ} {d : Draft} (xs : List ℕ) → Shaped s ls d → accepted s ls xs ≡ None →
     (fits d xs ≡ false) × (accept d xs ≡ none) × (lengths_after s ls xs ≡ ls)
 step_unfit {s} {ls} {d} xs h e =
     let f = unfit_misfit s ls xs e in

@@ -1,21 +1,14 @@
-use native.Mathlib.Omega.{arith}
-use mathlib.Core.Path.{refl, sym, ap, ◌∙◌}
+-- `all_symbols` meets its contract: the library's `all` is the specification's.
+use Rattle.std.proofs.Common.{rules, tests, ◌∙◌}
+use Rattle.std.proofs.lemmas.Iterator.{YieldsList-from_slice}
+use Rattle.std.proofs.lemmas.Iterator.Search.{all_from_yields_List}
 use Rattle.lines.specs.Lines.Fits.{is_symbol}
-use Rattle.lines.proofs.TestLaws.{all-fails, all-passes, all_done}
+use Rattle.lines.proofs.TestLaws.{all-listed}
 use Rattle.lines.proofs.fits.all_symbols.Goals as goal
 
-pub loop-i-init : goal.loop-i-init
-loop-i-init c = (omega arith, refl)
-
-pub returns-then-not-is_symbol : goal.returns-then-not-is_symbol
-returns-then-not-is_symbol c = let a = c.args in
-    let f = is_symbol a.terms a.nonterms in
-    sym (c.loop-i.invariant.1 ∙ all-fails f a.symbols.now c.loop-i.i c.loop-i-test.true (ap f (sym c.wide.ensures) ∙ sym c.is_symbol.ensures ∙ c.if-not-is_symbol.true))
-
-pub loop-i-preserved : goal.loop-i-preserved
-loop-i-preserved c = let a = c.args in
-    let f = is_symbol a.terms a.nonterms in
-    (omega arith, c.loop-i.invariant.1 ∙ all-passes f a.symbols.now c.loop-i.i c.loop-i-test.true (ap f (sym c.wide.ensures) ∙ sym c.is_symbol.ensures ∙ c.if-not-is_symbol.false))
-
 pub returns : goal.returns
-returns c = let a = c.args in sym (c.loop-i.invariant.1 ∙ all_done (is_symbol a.terms a.nonterms) a.symbols.now c.loop-i.i (omega arith))
+returns c =
+    let a = c.args in
+    let f = is_symbol a.terms a.nonterms in
+    all_from_yields_List f _ _ _ c.all.ensures.ran (YieldsList-from_slice a.symbols.now (cc)) (λ x b q k. search (rules, tests)) ∙
+    all-listed f a.symbols.now
