@@ -47,6 +47,6 @@ unique κs a r r' e e' p q =
     (answer_once r r' x, y)
 
 -- any two outcomes that the contract of `read_tail` allows are equal: what is told, and what the slice holds at the end
-pub tail_unique : (κs : Lfts 2) (a : _) (r r' : Result ℕ TailError) (e e' : _) → T.Learnt κs a r e → T.Learnt κs a r' e' →
-    (r ≡ r') × (e.1.0.now ≡ e'.1.0.now)
+pub tail_unique : (κs : Lfts 2) (a : _) (r r' : Result ℕ TailError) (e e' : _) → T.Learnt κs a r e →
+    T.Learnt κs a r' e' → (r ≡ r') × (e.1.0.now ≡ e'.1.0.now)
 tail_unique κs a r r' e e' p q = unique_tail a.0.now a.1.0.now r r' e.1.0.now e'.1.0.now p q

@@ -30,8 +30,10 @@ tail_line xs = tail_text xs ++ (newline ∷ [])
 pub data ReadsTail (line before : List ℕ) : Result ℕ TailError → List ℕ → Type 0 where
   tokens : (xs : List ℕ) → line ≡ tail_line xs → Words xs → length xs ≤ length before →
       ReadsTail line before (Ok (length xs)) (in_front xs before)
-  many : (xs : List ℕ) → line ≡ tail_line xs → Words xs → length before < length xs → ReadsTail line before (Err (TailError.Many (length xs))) before
-  range : (xs : List ℕ) → line ≡ tail_line xs → Short xs → (Words xs → ⊥) → ReadsTail line before (Err TailError.Range) before
+  many : (xs : List ℕ) → line ≡ tail_line xs → Words xs → length before < length xs →
+      ReadsTail line before (Err (TailError.Many (length xs))) before
+  range : (xs : List ℕ) → line ≡ tail_line xs → Short xs → (Words xs → ⊥) →
+      ReadsTail line before (Err TailError.Range) before
   form : ((xs : List ℕ) → Short xs → line ≡ tail_line xs → ⊥) → ReadsTail line before (Err TailError.Form) before
 
 -- ---- the same as a program

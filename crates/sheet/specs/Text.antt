@@ -1,13 +1,14 @@
--- What the text of one line says, from a place of the bytes on: a number, a key, the numbers of a value up to its LF.
-use Rattle.std.specs.Prelude.{ℕ, suc, ◌+◌, ◌*◌, ◌-◌, ◌%◌, ◌≤◌, ◌<◌, ◌≡◌, Bool, true, false, List, [], ◌∷◌, ◌++◌, length, drop, eqb, leb}
+-- What the text of one line says: a number, a key, the numbers of a value up to its LF.
+use Rattle.std.specs.Prelude.{ℕ, suc, ◌+◌, ◌*◌, ◌-◌, ◌≤◌, ◌<◌, ◌≡◌, Bool, true, false, List, [], ◌∷◌, ◌++◌}
+use Rattle.std.specs.Prelude.{length, drop, eqb, leb, Option as Found, MatchOption, Result, Ok, Err}
 use Rattle.std.proofs.Math.Option.{Option, none, some}
-use Rattle.std.proofs.Math.Seq.{paste}
 use Rattle.lines.specs.Basics.{All}
-use Rattle.lines.specs.Lines.{Due, nothing, short, whole}
-use Rattle.sheet.specs.Sheet.{newline, digit0, max_digits, is_digit, value_from, numeral, words, each_numeral, numerals, after, line, due_line, cut_line}
-use Rattle.sheet.specs.declared.text.Numeral.{Numeral}
-use Rattle.sheet.specs.declared.text.Line.{Line}
-use Rattle.sheet.specs.declared.text.Opening.{Opening}
+use Rattle.lines.specs.Lines.{Due, key, is_end, nothing, short, whole}
+use Rattle.sheet.specs.Sheet.{newline, equals, digit0, max_digits, is_digit, value_from, numeral, words}
+use Rattle.sheet.specs.Sheet.{each_numeral, numerals, line, due_line, cut_line, in_front}
+use Rattle.sheet.specs.declared.text.LineError.{LineError}
+use Rattle.sheet.specs.declared.ReadError.{ReadError}
+use denote.Ref.{Bor}
 pub mod Digits
 pub mod Values
 pub mod Keys
@@ -34,10 +35,11 @@ pub data Counted (ds : List ℕ) (count value : ℕ) : Type 0 where
   few : count ≤ max_digits → count ≡ length ds → value ≡ value_from 0 ds → Counted ds count value
   many : count ≡ suc max_digits → max_digits < length ds → Counted ds count value
 
--- the number that stands at a place, and the place after it
-unfoldable pub number_at : List ℕ → ℕ → Numeral
-unfolding digits_of numeral
-number_at s at = elim (numeral (digits_of (drop at s))) [ none ↦ Numeral.Bad | some v ↦ Numeral.Value v (at + length (digits_of (drop at s))) ]
+-- the number that bytes begin with and what comes after it; or they begin with none
+abbrev pub NumberOf : List ℕ → Found (ℕ × Bor (List ℕ)) → Type 0
+NumberOf s o =
+    MatchOption o (numeral (digits_of s) ≡ none)
+    (λ p. (numeral (digits_of s) ≡ some p.0) × (p.1.now ≡ drop (length (digits_of s)) s))
 
 -- ---- a value
 
@@ -76,10 +78,17 @@ unfoldable pub prefixed : List ℕ → Value → Value
 prefixed acc bad = bad
 prefixed acc (has ns rest) = has (acc ++ ns) rest
 
--- what a test finds of a key: what comes after it, or nothing
-unfoldable pub matched : Bool → List ℕ → Option (List ℕ)
-matched true rest = some rest
-matched false rest = none
+-- the number that bytes begin with, put before the others: none after the LF, and else those of the bytes after it
+abbrev pub with_first : ℕ → Bool → List ℕ → Value
+with_first n true rest = has (n ∷ []) rest
+with_first n false rest = prefixed (n ∷ []) (words_of rest)
+
+-- the number that bytes begin with, whether it is the last, and what comes after the byte behind it;
+-- or no value in its form
+abbrev pub WordOf : List ℕ → Found (ℕ × Bool × Bor (List ℕ)) → Type 0
+WordOf s o =
+    MatchOption o (words_of s ≡ bad)
+    (λ p. (length p.2.now + 2 ≤ length s) × (words_of s ≡ with_first p.0 p.1 p.2.now))
 
 -- the numbers up to the LF where each byte that is no digit ends a number, after digits that say v
 unfoldable pub rest_from : ℕ → List ℕ → Value
@@ -90,15 +99,14 @@ rest_from v (c ∷ cs) = elim (leb digit0 c) [
   | false ↦ elim (eqb c newline) [ true ↦ has (v ∷ []) cs | false ↦ prefixed (v ∷ []) (rest_from 0 cs) ]
 ]
 
--- the bytes from a place on, without the key in front of them; or they begin with another
-abbrev pub Behind : List ℕ → List ℕ → ℕ → Opening → Type 0
-Behind k s at (Opening.At p) = (at ≤ p) × (p ≤ length s) × (after k (drop at s) ≡ some (drop p s))
-Behind k s at Opening.No = after k (drop at s) ≡ none
+-- the key of the line that is due and the equals sign; or none is due
+abbrev pub OpeningOf : Due → Found (Bor (List ℕ)) → Type 0
+OpeningOf w o = MatchOption o (is_end w ≡ true) (λ k. (is_end w ≡ false) × (k.now ≡ key w ++ (equals ∷ [])))
 
--- where the value of the line that is due begins, from a place on, behind a key of two bytes at least; or no such line begins there
-abbrev pub Opened : Due → List ℕ → ℕ → Opening → Type 0
-Opened w s at (Opening.At p) = (at + 2 ≤ p) × (p ≤ length s) × (line_of w (drop at s) ≡ value_of (drop p s))
-Opened w s at Opening.No = line_of w (drop at s) ≡ bad
+-- the value of the line that is due, behind a key of two bytes at least, and all that comes after it;
+-- or bytes do not begin with such a line
+abbrev pub Opened : Due → List ℕ → Found (Bor (List ℕ)) → Type 0
+Opened w s o = MatchOption o (line_of w s ≡ bad) (λ v. (length v.now + 2 ≤ length s) × (line_of w s ≡ value_of v.now))
 
 -- ---- the numbers of a value, kept in an array
 
@@ -106,23 +114,13 @@ Opened w s at Opening.No = line_of w (drop at s) ≡ bad
 abbrev pub Words : List ℕ → Type 0
 Words xs = All (λ x. x ≤ max_word) xs
 
--- the low 16 bits
-abbrev pub low_of : ℕ → ℕ
-low_of v = v % 65536
-
--- there is room for the numbers of all bytes from a place on: two bytes give one number at most
-abbrev pub Roomy : List ℕ → ℕ → List ℕ → ℕ → Type 0
-Roomy s at room w = (at ≤ length s) × (2 * w ≤ at) × (length s ≤ 2 * length room)
-
--- n numbers of 16 bits, from a place of the bytes up to another, were written from a place of the array on
-pub record Written (v : Value) (s : List ℕ) (at : ℕ) (before : List ℕ) (w n e : ℕ) (after : List ℕ) : Type 0 where
-  pub passed : at < e
-  pub inside : e ≤ length s
-  pub half : 2 * (w + n) ≤ e
+-- n numbers of 16 bits, which take two bytes each, behind k bytes at least, stand at the front of an array
+pub record Written (v : Value) (k : ℕ) (s before : List ℕ) (n : ℕ) (rest after : List ℕ) : Type 0 where
+  pub half : k + 2 * n + length rest ≤ length s
   pub numbers : List ℕ
-  pub value : v ≡ has numbers (drop e s)
+  pub value : v ≡ has numbers rest
   pub counted : n ≡ length numbers
-  pub placed : after ≡ paste before w numbers n
+  pub placed : after ≡ in_front numbers before
 
 -- a number is above 16 bits
 pub record Wide (v : Value) : Type 0 where
@@ -131,12 +129,17 @@ pub record Wide (v : Value) : Type 0 where
   pub value : v ≡ has numbers rest
   pub wide : Words numbers → ⊥
 
--- a line of n numbers, the largest of which is top, which ends at a place; unless a number is above 16 bits
-unfoldable pub counted_to : ℕ → ℕ → ℕ → Line
-counted_to n top e = elim (leb top max_word) [ true ↦ Line.Whole n e | false ↦ Line.Unfit ]
+-- why the line of a value is refused
+abbrev pub Refused : Value → LineError → Type 0
+Refused v LineError.Form = v ≡ bad
+Refused v LineError.Range = Wide v
 
--- what is told of a value that begins at a place of the bytes, and what became of the array
-abbrev pub Told : Value → List ℕ → ℕ → List ℕ → ℕ → Line → List ℕ → Type 0
-Told v s at before w (Line.Whole n e) after = Written v s at before w n e after
-Told v s at before w Line.Unfit after = Wide v
-Told v s at before w Line.Bad after = v ≡ bad
+-- what is told of a value behind k bytes at least, and what became of the array
+abbrev pub Told : Value → ℕ → List ℕ → List ℕ → Result (ℕ × Bor (List ℕ)) LineError → List ℕ → Type 0
+Told v k s before (Ok (n, rest)) after = Written v k s before n rest.now after
+Told v k s before (Err e) after = Refused v e
+
+-- the sheet's refusal, of a line's and its number
+abbrev pub refused_at : LineError → ℕ → ReadError
+refused_at LineError.Form line = ReadError.Form line
+refused_at LineError.Range line = ReadError.Range line

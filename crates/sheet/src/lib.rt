@@ -7,14 +7,9 @@ ghost use Rattle.sheet.specs.Reads.{ReadsInto, answer_of};
 ghost use Rattle.sheet.specs.Tail.{ReadsTail};
 
 use lines::Shape;
-use scan::Scanned;
-use std::error::Error;
-use std::fmt;
-use text::Opening;
 
 mod text; // text.rt: the text of one line: its key, its numbers
 mod scan; // scan.rt: the pass over a sheet, which takes every line in and keeps its numbers
-mod copy; // copy.rt: numbers copied to a slice
 mod put; // put.rt: the numbers of a value written to a slice
 mod tail; // tail.rt: the pass over a tail line, which finds what it says
 
@@ -31,19 +26,6 @@ pub enum ReadError {
     Short(usize),
 }
 
-impl fmt::Display for ReadError {
-    fn fmt<W: fmt::Write>(&self, f: &mut fmt::Formatter<W>) -> fmt::Result {
-        match *self {
-            ReadError::TooLong => write!(f, "the sheet has more than {} bytes", Shape::MAX_BYTES),
-            ReadError::Form(line) => write!(f, "line {line} is missing or not in its form"),
-            ReadError::Range(line) => write!(f, "line {line} has a wrong count or range"),
-            ReadError::Short(needed) => write!(f, "the slice is too short for {needed} numbers"),
-        }
-    }
-}
-
-impl Error for ReadError {}
-
 // Places for the numbers of a small sheet while it is read. Two bytes of a sheet give one number at most.
 const FEW: usize = 600;
 
@@ -54,22 +36,17 @@ const SOME: usize = 6000;
 const MANY: usize = 30000;
 
 // Reads a sheet with an array that keeps its numbers until all lines are known to be in order.
-fn read_by(bytes: &[u8], kept: &mut [u16], out: &mut [u16]) -> Result<usize, ReadError>
-    requires { (length bytes.now ≤ max_bytes) × (length bytes.now ≤ 2 * length kept.old) }
+fn read_in<const N: usize>(bytes: &[u8], out: &mut [u16]) -> Result<usize, ReadError>
+    requires { (length bytes.now ≤ 2 * N) × (2 * N ≤ max_bytes) }
     ensures { ReadsInto bytes.now out.old (answer_of result) out.new }
 {
-    let found = scan::scan(bytes, kept);
-    match found {
-        Scanned::Bad(line) => Err(ReadError::Form(line)),
-        Scanned::Unfit(line) => Err(ReadError::Range(line)),
-        Scanned::Good(count) => {
-            if out.len() < count {
-                return Err(ReadError::Short(count));
-            }
-            copy::copy(&kept[..count], out);
-            Ok(count)
-        }
+    let mut kept = [0u16; N];
+    let count = scan::scan(bytes, &mut kept)?;
+    if count > out.len() {
+        return Err(ReadError::Short(count));
     }
+    out[..count].copy_from_slice(&kept[..count]);
+    Ok(count)
 }
 
 // Reads a sheet: its table's numbers go to the front of the slice, whose rest stays. A refusal changes nothing.
@@ -78,18 +55,14 @@ pub fn read(bytes: &[u8], out: &mut [u16]) -> Result<usize, ReadError>
 {
     let length = bytes.len();
     if Shape::MAX_BYTES < length {
-        return Err(ReadError::TooLong);
+        Err(ReadError::TooLong)
+    } else if length <= 2 * FEW {
+        read_in::<FEW>(bytes, out)
+    } else if length <= 2 * SOME {
+        read_in::<SOME>(bytes, out)
+    } else {
+        read_in::<MANY>(bytes, out)
     }
-    if length <= 2 * FEW {
-        let mut kept = [0u16; FEW];
-        return read_by(bytes, &mut kept, out);
-    }
-    if length <= 2 * SOME {
-        let mut kept = [0u16; SOME];
-        return read_by(bytes, &mut kept, out);
-    }
-    let mut kept = [0u16; MANY];
-    read_by(bytes, &mut kept, out)
 }
 
 // Why a tail line is refused.
@@ -103,32 +76,19 @@ pub enum TailError {
     Many(usize),
 }
 
-impl fmt::Display for TailError {
-    fn fmt<W: fmt::Write>(&self, f: &mut fmt::Formatter<W>) -> fmt::Result {
-        match *self {
-            TailError::Form => write!(f, "the tail line is not in its form"),
-            TailError::Range => write!(f, "a token of the tail line is above 65,535"),
-            TailError::Many(count) => write!(f, "the slice is too short for {count} tokens"),
-        }
-    }
-}
-
-impl Error for TailError {}
-
 // Reads a tail line: its tokens go to the front of the slice, whose rest stays. A refusal changes nothing.
 pub fn read_tail(line: &[u8], out: &mut [u16]) -> Result<usize, TailError>
     ensures { ReadsTail line.now out.old result out.new }
 {
-    let opening = text::open_line(line, 0, b"tail=");
-    let Opening::At(at) = opening else {
+    let Some(value) = tail::open(line) else {
         return Err(TailError::Form);
     };
-    let count = tail::tell(line, at)?;
+    let count = tail::tell(value)?;
     if out.len() < count {
         return Err(TailError::Many(count));
     }
     if count != 0 {
-        put::put_value(line, at, out, 0);
+        put::put_value(value, out);
     }
     Ok(count)
 }

@@ -1,4 +1,4 @@
--- `read`: a sheet that is too long, or what `read_by` makes of it with an array that is long enough.
+-- `read`: a sheet that is too long, or what `read_in` makes of it with an array that is long enough.
 use Rattle.sheet.specs.Reads.Answers.{answer_long}
 use Rattle.sheet.proofs.read.Goals as goal
 

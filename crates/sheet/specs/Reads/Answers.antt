@@ -1,5 +1,5 @@
 -- From what the pass finds and keeps to the reader's outcome.
-use Rattle.std.specs.Prelude.{ℕ, ◌≤◌, ◌<◌, ◌≡◌, Ok, Err}
+use Rattle.std.specs.Prelude.{ℕ, ◌≤◌, ◌<◌, ◌≡◌, Result, Ok, Err}
 use Rattle.std.proofs.Common.{arith, sym, ◌∙◌, length-take}
 use Rattle.std.proofs.Math.Path.{refl, ap, subst}
 use mathlib.Core.List.{List, []}
@@ -14,7 +14,6 @@ use Rattle.sheet.specs.Reads.{ReadsInto, answer_of}
 use Rattle.sheet.specs.Reads.Exact.{never_over}
 use Rattle.sheet.specs.Reads.Slices.{computed}
 use Rattle.sheet.specs.declared.ReadError.{ReadError}
-use Rattle.sheet.specs.declared.scan.Scanned.{Scanned}
 
 module _ (bs before : List ℕ) where
   -- too many bytes
@@ -29,35 +28,29 @@ module _ (bs before : List ℕ) where
     unfolding read_sheet
     whole = rw (le-leb (length bs) max_bytes l, read_sheet) refl
 
-    -- a bad line
-    pub answer_form : (line : ℕ) → Scanned.Bad line ≡ scan_of (sheet_at 0 [] start bs) → ReadsInto bs before (answer_of (Err (ReadError.Form line))) before
+    -- the pass refuses the sheet
+    pub answer_refused : (r : ReadError) → Err r ≡ scan_of (sheet_at 0 [] start bs) →
+        ReadsInto bs before (answer_of (Err r)) before
     unfolding answer_of outcome slice_after scan_of
-    answer_form line e = at (sheet_at 0 [] start bs) refl
+    answer_refused r e = at (sheet_at 0 [] start bs) refl
       where
-        at : (r : Read) → sheet_at 0 [] start bs ≡ r → ReadsInto bs before (11, line) before
+        at : (q : Read) → sheet_at 0 [] start bs ≡ q → ReadsInto bs before (answer_of (Err r)) before
         at Read.over p = absurd (never_over bs p)
         at (Read.bad n) p =
-            let h : Scanned.Bad line ≡ Scanned.Bad n = e ∙ ap scan_of p in
-            let q : read_sheet bs ≡ Read.bad line = whole ∙ p ∙ ap (λ x. Read.bad x) (let z : n ≡ line = cc in z) in
-            computed bs before (11, line) before (rw (q, outcome) refl) (rw (q, slice_after) refl)
-        at (Read.unfit n) p = let h : Scanned.Bad line ≡ Scanned.Unfit n = e ∙ ap scan_of p in never cc
-        at (Read.good ns d) p = let h : Scanned.Bad line ≡ Scanned.Good (length ns) = e ∙ ap scan_of p in never cc
-
-    -- a line that does not fit
-    pub answer_range : (line : ℕ) → Scanned.Unfit line ≡ scan_of (sheet_at 0 [] start bs) → ReadsInto bs before (answer_of (Err (ReadError.Range line))) before
-    unfolding answer_of outcome slice_after scan_of
-    answer_range line e = at (sheet_at 0 [] start bs) refl
-      where
-        at : (r : Read) → sheet_at 0 [] start bs ≡ r → ReadsInto bs before (12, line) before
-        at Read.over p = absurd (never_over bs p)
-        at (Read.bad n) p = let h : Scanned.Unfit line ≡ Scanned.Bad n = e ∙ ap scan_of p in never cc
+            let h : ◌≡◌ {A = Result ℕ ReadError} (Err (ReadError.Form n)) (Err r) = sym (e ∙ ap scan_of p) in
+            let q : read_sheet bs ≡ Read.bad n = whole ∙ p in
+            subst (λ x. ReadsInto bs before (answer_of x) before) h
+            (computed bs before (11, n) before (rw (q, outcome) refl) (rw (q, slice_after) refl))
         at (Read.unfit n) p =
-            let h : Scanned.Unfit line ≡ Scanned.Unfit n = e ∙ ap scan_of p in
-            let q : read_sheet bs ≡ Read.unfit line = whole ∙ p ∙ ap (λ x. Read.unfit x) (let z : n ≡ line = cc in z) in
-            computed bs before (12, line) before (rw (q, outcome) refl) (rw (q, slice_after) refl)
-        at (Read.good ns d) p = let h : Scanned.Unfit line ≡ Scanned.Good (length ns) = e ∙ ap scan_of p in never cc
+            let h : ◌≡◌ {A = Result ℕ ReadError} (Err (ReadError.Range n)) (Err r) = sym (e ∙ ap scan_of p) in
+            let q : read_sheet bs ≡ Read.unfit n = whole ∙ p in
+            subst (λ x. ReadsInto bs before (answer_of x) before) h
+            (computed bs before (12, n) before (rw (q, outcome) refl) (rw (q, slice_after) refl))
+        at (Read.good ns d) p =
+            let h : ◌≡◌ {A = Result ℕ ReadError} (Err r) (Ok (length ns)) = e ∙ ap scan_of p in never cc
 
-    module _ (count : ℕ) (e : Scanned.Good count ≡ scan_of (sheet_at 0 [] start bs)) (kept : List ℕ) (k : Kept (sheet_at 0 [] start bs) kept) where
+    module _ (count : ℕ) (e : Ok count ≡ scan_of (sheet_at 0 [] start bs))
+        (kept : List ℕ) (k : Kept (sheet_at 0 [] start bs) kept) where
       -- all lines are read: their numbers stand at the front of the array
       record Counted : Type 0 where
         numbers : List ℕ
@@ -72,10 +65,12 @@ module _ (bs before : List ℕ) where
         where
           at : (r : Read) → sheet_at 0 [] start bs ≡ r → Counted
           at Read.over p = absurd (never_over bs p)
-          at (Read.bad n) p = let h : Scanned.Good count ≡ Scanned.Bad n = e ∙ ap scan_of p in never cc
-          at (Read.unfit n) p = let h : Scanned.Good count ≡ Scanned.Unfit n = e ∙ ap scan_of p in never cc
+          at (Read.bad n) p =
+              let h : ◌≡◌ {A = Result ℕ ReadError} (Ok count) (Err (ReadError.Form n)) = e ∙ ap scan_of p in never cc
+          at (Read.unfit n) p =
+              let h : ◌≡◌ {A = Result ℕ ReadError} (Ok count) (Err (ReadError.Range n)) = e ∙ ap scan_of p in never cc
           at (Read.good ns d) p =
-              let h : Scanned.Good count ≡ Scanned.Good (length ns) = e ∙ ap scan_of p in
+              let h : ◌≡◌ {A = Result ℕ ReadError} (Ok count) (Ok (length ns)) = e ∙ ap scan_of p in
               let c : count ≡ length ns = cc in
               record {
                 numbers = ns;
@@ -99,7 +94,8 @@ module _ (bs before : List ℕ) where
           computed bs before (13, count) before (rw (counted.read, outcome) (rw b (ap (λ (x : ℕ). (13, x)) (sym q)))) (rw (counted.read, slice_after) (rw b refl))
 
       -- the numbers are written
-      pub answer_fit : count ≤ length before → (after : List ℕ) → after ≡ in_front (take count kept) before → ReadsInto bs before (answer_of (Ok count)) after
+      pub answer_fit : count ≤ length before → (after : List ℕ) → after ≡ in_front (take count kept) before →
+          ReadsInto bs before (answer_of (Ok count)) after
       unfolding answer_of outcome slice_after
       answer_fit h after f =
           let q = counted.how_many in

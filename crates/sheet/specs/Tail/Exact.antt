@@ -94,7 +94,8 @@ module _ (line before : List ℕ) where
   its_tail xs e h = ap tail_of e ∙ tail_read xs h
 
   -- what the relation allows is the program's outcome
-  pub only_tail : (r : Result ℕ TailError) (after : List ℕ) → ReadsTail line before r after → tail_into (tail_of line) before ≡ (r, after)
+  pub only_tail : (r : Result ℕ TailError) (after : List ℕ) → ReadsTail line before r after →
+      tail_into (tail_of line) before ≡ (r, after)
   unfolding tail_into
   only_tail r after (tokens xs e w h) =
       rw (its_tail xs e (words_short xs w)) (rw (words_test xs w, tail_into) (rw (le-leb (length xs) (length before) h) refl))
@@ -108,8 +109,8 @@ module _ (line before : List ℕ) where
       at (some xs) p = let (e, s) = read_tail line xs p in absurd (n xs s e)
 
   -- any two outcomes that the relation allows are equal
-  pub unique_tail : (r r' : Result ℕ TailError) (after after' : List ℕ) → ReadsTail line before r after → ReadsTail line before r' after' →
-      (r ≡ r') × (after ≡ after')
+  pub unique_tail : (r r' : Result ℕ TailError) (after after' : List ℕ) → ReadsTail line before r after →
+      ReadsTail line before r' after' → (r ≡ r') × (after ≡ after')
   unique_tail r r' after after' p q =
       let e = sym (only_tail r after p) ∙ only_tail r' after' q in
       (ap (λ (x : Result ℕ TailError × List ℕ). x.0) e, ap (λ (x : Result ℕ TailError × List ℕ). x.1) e)

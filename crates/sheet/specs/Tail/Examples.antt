@@ -27,12 +27,15 @@ token_over = refl
 
 -- form goes before range: a leading zero, a space at the end, six digits
 pub form_first :
-    (told_of (tail_of (text ("tail=65536 00" ∷ []))) ≡ Err TailError.Form) × (told_of (tail_of (text ("tail=65536 " ∷ []))) ≡ Err TailError.Form) ×
+    (told_of (tail_of (text ("tail=65536 00" ∷ []))) ≡ Err TailError.Form) ×
+    (told_of (tail_of (text ("tail=65536 " ∷ []))) ≡ Err TailError.Form) ×
     (told_of (tail_of (text ("tail=100000" ∷ []))) ≡ Err TailError.Form)
 unfolding told_of tail_of text
 form_first = (refl, refl, refl)
 
 -- a second line, or none
-pub one_line : (told_of (tail_of (text ("tail=2" ∷ "" ∷ []))) ≡ Err TailError.Form) × (told_of (tail_of (text [])) ≡ Err TailError.Form)
+pub one_line :
+    (told_of (tail_of (text ("tail=2" ∷ "" ∷ []))) ≡ Err TailError.Form) ×
+    (told_of (tail_of (text [])) ≡ Err TailError.Form)
 unfolding told_of tail_of text
 one_line = (refl, refl)

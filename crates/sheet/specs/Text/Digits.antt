@@ -1,7 +1,7 @@
 -- Laws of the digits that bytes begin with, one digit more and at their end; and when they have the form of a number.
 use Prim.Native.Nat.{ℕ, zero, suc, ◌+◌, ◌*◌, ◌-◌, ◌≤◌, ◌<◌}
 use native.Mathlib.Omega.{arith}
-use Rattle.std.proofs.Common.{add-one, ◌∙◌, drop_of_length-le, length-drop, drop-cons, get_or-drop, add-zero, eq-eqb, ne_eqb, le-leb}
+use Rattle.std.proofs.Common.{add-one, ◌∙◌, drop_of_length-le, drop-cons, eq-eqb, ne_eqb, le-leb}
 use Rattle.std.specs.Prelude.{◌≡◌, Bool, true, false, not, ◌&&◌, drop, eqb}
 use Rattle.std.proofs.Math.Path.{refl, sym, ap, subst}
 use Rattle.std.proofs.Math.Option.{none, some}
@@ -13,8 +13,8 @@ use Rattle.lines.specs.Ranges.Tests.{two, within-holds}
 use Rattle.lines.specs.Basics.{impossible}
 use Rattle.sheet.specs.Sheet.{digit0, digit9, max_digits, is_digit, plain, is_numeral, value_from, numeral}
 use Rattle.sheet.specs.Sheet.Numerals.{tens}
-use Rattle.sheet.specs.Text.{digits_of, Counted, few, many, number_at}
-use Rattle.sheet.specs.declared.text.Numeral.{Numeral}
+use Rattle.sheet.specs.Text.{digits_of, Counted, few, many}
+use Rattle.std.proofs.Math.Decide.{dec_lt}
 
 -- ---- one byte
 
@@ -46,13 +46,12 @@ rest_at s i h = rw (add-one i) (drop-cons s i 0 h)
 
 -- ---- counting
 
--- the digits of a number passed so far, from a place on
-pub record Counting (s : List ℕ) (at count value i : ℕ) : Type 0 where
-  pub inside : i ≤ length s
+-- the digits of a number passed so far
+pub record Counting (s : List ℕ) (count value : ℕ) : Type 0 where
   pub small : count ≤ max_digits
   pub below : value < tens count
-  pub counted : count + length (digits_of (drop i s)) ≡ length (digits_of (drop at s))
-  pub said : value_from value (digits_of (drop i s)) ≡ value_from 0 (digits_of (drop at s))
+  pub counted : count + length (digits_of (drop count s)) ≡ length (digits_of s)
+  pub said : value_from value (digits_of (drop count s)) ≡ value_from 0 (digits_of s)
 
 -- up to four digits say no more than this
 pub tens-few : (k : ℕ) → k < max_digits → tens k ≤ 10000
@@ -65,49 +64,52 @@ tens-few (suc (suc (suc (suc zero)))) h = omega arith
 tens-few (suc (suc (suc (suc (suc k))))) h = impossible (omega arith)
 
 -- at the start no digit is counted
-pub counting_start : (s : List ℕ) (at : ℕ) → at ≤ length s → Counting s at 0 0 at
+pub counting_start : (s : List ℕ) → Counting s 0 0
 unfolding tens
-counting_start s at h = record { inside = h; small = omega arith; below = omega arith; counted = omega arith; said = refl }
+counting_start s = record { small = omega arith; below = omega arith; counted = omega arith; said = refl }
 
-module _ (s : List ℕ) (at count value i : ℕ) (k : Counting s at count value i) where
+module _ {s : List ℕ} {count value : ℕ} (k : Counting s count value) where
   -- one digit more
-  pub counting_more : (d : ℕ) → i < length s → d + digit0 ≡ get_or s i 0 → get_or s i 0 ≤ digit9 → count < max_digits →
-      Counting s at (count + 1) (10 * value + d) (i + 1)
+  pub counting_more : (d : ℕ) → count < length s → d + digit0 ≡ get_or s count 0 → get_or s count 0 ≤ digit9 →
+      count < max_digits → Counting s (count + 1) (10 * value + d)
   unfolding value_from tens
   counting_more d h e l f =
-      let c : ℕ = get_or s i 0 in
-      let p : digits_of (drop i s) ≡ c ∷ digits_of (drop (i + 1) s) =
-      ap digits_of (rest_at s i h) ∙ digit_next c (drop (i + 1) s) (is_digit_law c (omega arith) l) in
+      let c : ℕ = get_or s count 0 in
+      let p : digits_of (drop count s) ≡ c ∷ digits_of (drop (count + 1) s) =
+      ap digits_of (rest_at s count h) ∙ digit_next c (drop (count + 1) s) (is_digit_law c (omega arith) l) in
       let v : 10 * value + (c - digit0) ≡ 10 * value + d = omega arith in
       let t : 10 * value + d < 10 * tens count = let b = k.below in omega arith in
       record {
-        inside = omega arith;
         small = omega arith;
         below = subst (λ (n : ℕ). 10 * value + d < tens n) (sym (add-one count)) t;
         counted = let q = ap (λ (x : List ℕ). length x) p in let r = k.counted in omega arith;
-        said = ap (λ (x : ℕ). value_from x (digits_of (drop (i + 1) s))) (sym v) ∙ sym (ap (value_from value) p) ∙ k.said;
+        said =
+            ap (λ (x : ℕ). value_from x (digits_of (drop (count + 1) s))) (sym v) ∙ sym (ap (value_from value) p) ∙
+            k.said;
       }
 
   -- no digit is left
-  pub counting_done : digits_of (drop i s) ≡ [] → Counted (digits_of (drop at s)) count value
+  pub counting_done : digits_of (drop count s) ≡ [] → Counted (digits_of s) count value
   unfolding value_from
   counting_done e =
       few k.small (let q = ap (λ (x : List ℕ). length x) e in let r = k.counted in omega arith)
       (ap (value_from value) (sym e) ∙ k.said)
 
   -- the next byte is no digit
-  pub counting_stop : i < length s → is_digit (get_or s i 0) ≡ false → Counted (digits_of (drop at s)) count value
-  counting_stop h e = counting_done (ap digits_of (rest_at s i h) ∙ digit_stop (get_or s i 0) (drop (i + 1) s) e)
+  pub counting_stop : count < length s → is_digit (get_or s count 0) ≡ false → Counted (digits_of s) count value
+  counting_stop h e =
+      counting_done (ap digits_of (rest_at s count h) ∙ digit_stop (get_or s count 0) (drop (count + 1) s) e)
 
   -- no byte is left
-  pub counting_end : length s ≤ i → Counted (digits_of (drop at s)) count value
+  pub counting_end : length s ≤ count → Counted (digits_of s) count value
   unfolding digits_of
   counting_end h = counting_done (ap digits_of (drop_of_length-le s h))
 
   -- a digit too many
-  pub counting_many : i < length s → is_digit (get_or s i 0) ≡ true → count ≡ max_digits → Counted (digits_of (drop at s)) (count + 1) value
+  pub counting_many : count < length s → is_digit (get_or s count 0) ≡ true → count ≡ max_digits →
+      Counted (digits_of s) (count + 1) value
   counting_many h e f =
-      let p = ap digits_of (rest_at s i h) ∙ digit_next (get_or s i 0) (drop (i + 1) s) e in
+      let p = ap digits_of (rest_at s count h) ∙ digit_next (get_or s count 0) (drop (count + 1) s) e in
       let q = ap (λ (x : List ℕ). length x) p in
       let r = k.counted in
       many (omega arith) (omega arith)
@@ -178,66 +180,56 @@ form_untidy ds e = form_fails ds (rw e (and_false (within 1 max_digits (length d
     and_false true = refl
     and_false false = refl
 
-module _ (s : List ℕ) (at count value : ℕ) (k : Counted (digits_of (drop at s)) count value) where
-  number_fails : numeral (digits_of (drop at s)) ≡ none → Numeral.Bad ≡ number_at s at
-  unfolding number_at
-  number_fails e = rw (e, number_at) refl
-
-  number_holds : count ≤ max_digits → 1 ≤ count → plain (digits_of (drop at s)) ≡ true → Numeral.Value value (at + count) ≡ number_at s at
-  unfolding number_at
+module _ (s : List ℕ) {count value : ℕ} (k : Counted (digits_of s) count value) where
+  number_holds : count ≤ max_digits → 1 ≤ count → plain (digits_of s) ≡ true →
+      (numeral (digits_of s) ≡ some value) × (count ≡ length (digits_of s))
   number_holds l h p = case k
     where
-      case : Counted (digits_of (drop at s)) count value → Numeral.Value value (at + count) ≡ number_at s at
+      case : Counted (digits_of s) count value → (numeral (digits_of s) ≡ some value) × (count ≡ length (digits_of s))
       case (few a b e) =
-          rw (form_holds (digits_of (drop at s)) (omega arith) (omega arith) (digits_all (drop at s)) p, number_at)
-          (λ j. Numeral.Value (e j) (at + b j))
+          (form_holds (digits_of s) (omega arith) (omega arith) (digits_all s) p ∙ ap (λ (x : ℕ). some x) (sym e), b)
       case (many a b) = impossible (omega arith)
 
   -- no digit stands there
-  pub number_none : count ≡ 0 → Numeral.Bad ≡ number_at s at
+  pub number_none : count ≡ 0 → numeral (digits_of s) ≡ none
   number_none h = case k
     where
-      case : Counted (digits_of (drop at s)) count value → Numeral.Bad ≡ number_at s at
-      case (few a b e) = number_fails (form_count (digits_of (drop at s)) (rw (← b) (rw h refl)))
+      case : Counted (digits_of s) count value → numeral (digits_of s) ≡ none
+      case (few a b e) = form_count (digits_of s) (rw (← b) (rw h refl))
       case (many a b) = impossible (omega arith)
 
   -- too many digits stand there
-  pub number_many : max_digits < count → Numeral.Bad ≡ number_at s at
+  pub number_many : max_digits < count → numeral (digits_of s) ≡ none
   number_many h = case k
     where
-      case : Counted (digits_of (drop at s)) count value → Numeral.Bad ≡ number_at s at
+      case : Counted (digits_of s) count value → numeral (digits_of s) ≡ none
       case (few a b e) = impossible (omega arith)
-      case (many a b) = let n : ℕ = length (digits_of (drop at s)) in number_fails (form_count (digits_of (drop at s)) (rw (le-leb 1 n (omega arith)) (lt-leb n max_digits b)))
+      case (many a b) =
+          let n : ℕ = length (digits_of s) in
+          form_count (digits_of s) (rw (le-leb 1 n (omega arith)) (lt-leb n max_digits b))
 
-  -- one digit stands there
-  pub number_one : count ≡ 1 → Numeral.Value value (at + count) ≡ number_at s at
-  number_one h = case k
-    where
-      case : Counted (digits_of (drop at s)) count value → Numeral.Value value (at + count) ≡ number_at s at
-      case (few a b e) = number_holds (omega arith) (omega arith) (plain-one (digits_of (drop at s)) (omega arith))
-      case (many a b) = impossible (omega arith)
-
-  several : 1 < count → plain (digits_of (drop at s)) ≡ not (eqb (get_or s at 0) digit0)
+  several : 1 < count → plain (digits_of s) ≡ not (eqb (get_or s 0 0) digit0)
   several h =
-      plain_more (digits_of (drop at s)) (long k) ∙
-      ap (λ (x : ℕ). not (eqb x digit0)) (first_digit (drop at s) (let l = long k in omega arith) ∙ get_or-drop at s 0 0 ∙ ap (λ (x : ℕ). get_or s x 0) (add-zero at))
+      plain_more (digits_of s) (long k) ∙
+      ap (λ (x : ℕ). not (eqb x digit0)) (first_digit s (let l = long k in omega arith))
     where
-      long : Counted (digits_of (drop at s)) count value → 1 < length (digits_of (drop at s))
+      long : Counted (digits_of s) count value → 1 < length (digits_of s)
       long (few a b e) = omega arith
       long (many a b) = omega arith
 
   -- a zero leads
-  pub number_zero : 1 < count → get_or s at 0 ≡ digit0 → Numeral.Bad ≡ number_at s at
-  number_zero h e = number_fails (form_untidy (digits_of (drop at s)) (several h ∙ ap not (eq-eqb (get_or s at 0) digit0 e)))
+  pub number_zero : 1 < count → get_or s 0 0 ≡ digit0 → numeral (digits_of s) ≡ none
+  number_zero h e = form_untidy (digits_of s) (several h ∙ ap not (eq-eqb (get_or s 0 0) digit0 e))
 
-  -- several digits stand there, and no zero leads
-  pub number_some : count ≤ max_digits → 1 < count → (get_or s at 0 ≡ digit0 → ⊥) → Numeral.Value value (at + count) ≡ number_at s at
-  number_some l h e = number_holds l (omega arith) (several h ∙ ap not (ne_eqb (get_or s at 0) digit0 e))
-
-  -- where a digit stands there is a byte
-  pub number_inside : 1 ≤ count → at < length s
-  number_inside h = case k
+  -- one digit stands there, or several and no zero leads
+  pub number_some : 1 ≤ count → count ≤ max_digits → (1 < count → get_or s 0 0 ≡ digit0 → ⊥) →
+      (numeral (digits_of s) ≡ some value) × (count ≡ length (digits_of s))
+  number_some h l e = number_holds l h (tidy (dec_lt 1 count))
     where
-      case : Counted (digits_of (drop at s)) count value → at < length s
-      case (few a b e) = let l = digits_short (drop at s) in let d = length-drop at s in omega arith
-      case (many a b) = let l = digits_short (drop at s) in let d = length-drop at s in omega arith
+      one : Counted (digits_of s) count value → count ≡ 1 → plain (digits_of s) ≡ true
+      one (few a b e) p = plain-one (digits_of s) (omega arith)
+      one (many a b) p = impossible (omega arith)
+
+      tidy : Dec (1 < count) → plain (digits_of s) ≡ true
+      tidy (yes p) = several p ∙ ap not (ne_eqb (get_or s 0 0) digit0 (e p))
+      tidy (no p) = one k (omega arith)

@@ -1,6 +1,6 @@
 -- Laws of the line that is due: its key in front of its value; and what such a line makes of the reading of a sheet.
-use Rattle.std.specs.Prelude.{ℕ, suc, ◌+◌, ◌≤◌, ◌≡◌, true, false, drop}
-use Rattle.std.proofs.Common.{arith, ◌∙◌, inl, inr, ⊎_elim, length-drop, length-append}
+use Rattle.std.specs.Prelude.{ℕ, suc, ◌≤◌, ◌≡◌, true, false, ◌≢◌, Option as Found, Some, None, MatchOption}
+use Rattle.std.proofs.Common.{arith, ◌∙◌, inl, inr, ⊎_elim, length-append}
 use Rattle.std.proofs.Math.Path.{refl, sym, ap}
 use Rattle.std.proofs.Math.Option.{Option, none, some}
 use mathlib.Core.List.{List, [], ◌∷◌, ◌++◌}
@@ -8,13 +8,12 @@ use Rattle.std.proofs.Math.ListN.{length}
 use Rattle.lines.specs.Basics.{never, impossible}
 use Rattle.lines.specs.Lines.{Due, key, is_end, Draft, accept, Cut}
 use Rattle.sheet.specs.Sheet.{equals, after, due_line, cut_line, Read, sheet_at}
-use Rattle.sheet.specs.Sheet.Forms.{key-text, cut-nothing}
+use Rattle.sheet.specs.Sheet.Forms.{key-text, cut-nothing, after_front}
 use Rattle.sheet.specs.Sheet.Steps.{at_short, at_bad, at_unfit, at_fit}
-use Rattle.sheet.specs.Text.{Value, bad, has, ended, value_of, keyed, line_of, Behind, Opened, Roomy, Told}
-use Rattle.sheet.specs.Text.Keys.{after-long}
+use Rattle.sheet.specs.Text.{bad, has, ended, value_of, keyed, line_of, Opened}
+use Rattle.sheet.specs.Text.Keys.{after-other}
 use Rattle.sheet.specs.Text.Keyed.{opening, keyed-endless, keyed-whole, keyed-other, keyed-value}
-use Rattle.sheet.specs.declared.text.Line.{Line}
-use Rattle.sheet.specs.declared.text.Opening.{Opening}
+use denote.Ref.{Bor}
 use Rattle.sheet.specs.Text.Values.{Endless}
 
 -- ---- a line by its cut
@@ -70,43 +69,19 @@ key-long Due.item e = omega arith
 key-long Due.go e = omega arith
 key-long Due.end e = never cc
 
--- what is behind the key and the equals sign of the line that is due is its value
-pub due_opened : (w : Due) (s : List ℕ) (at : ℕ) (r : Opening) → at ≤ length s → is_end w ≡ false → Behind (opening (key w)) s at r → Opened w s at r
-due_opened w s at (Opening.At p) l e (a, b, h) =
-    let k = key-long w e in
-    let m = after-long (opening (key w)) (drop at s) (drop p s) h in
-    let d = length-drop at s in
-    let f = length-drop p s in
-    let g = length-append (key w) (equals ∷ []) in
-    (omega arith, b, line_value w (drop at s) (drop p s) e h)
-due_opened w s at Opening.No l e h = line_other w (drop at s) e h
-
--- there is room for the numbers of the value behind the place for their count
-pub room-behind : (s : List ℕ) (at p : ℕ) (room : List ℕ) (w : ℕ) → Roomy s at room w → at + 2 ≤ p → p ≤ length s → Roomy s p room (w + 1)
-room-behind s at p room w (a, b, c) h l = (l, omega arith, c)
-
--- what is told of the value is told of the line
-pub told_line : (u v : Value) (s : List ℕ) (at p : ℕ) (before : List ℕ) (w : ℕ) (r : Line) (after : List ℕ) → u ≡ v → at ≤ p →
-    Told v s p before w r after → Told u s at before w r after
-told_line u v s at p before w (Line.Whole n e) after q h t = record {
-  passed = let a = t.passed in omega arith;
-  inside = t.inside;
-  half = t.half;
-  numbers = t.numbers;
-  value = q ∙ t.value;
-  counted = t.counted;
-  placed = t.placed;
-}
-told_line u v s at p before w Line.Unfit after q h t = record { numbers = t.numbers; rest = t.rest; value = q ∙ t.value; wide = t.wide }
-told_line u v s at p before w Line.Bad after q h t = q ∙ t
-
--- the bytes from a place on begin with a key, or not
-pub behind_key : (k s : List ℕ) (at : ℕ) → at ≤ length s → after k (drop at s) ≡ some (drop (at + length k) s) → Behind k s at (Opening.At (at + length k))
-behind_key k s at h e =
-    let l = after-long k (drop at s) (drop (at + length k) s) e in
-    let d = length-drop at s in
-    let f = length-drop (at + length k) s in
-    (omega arith, omega arith, e)
+-- the value behind the key that is due, if that stands in front
+pub opened : (w : Due) (s k : List ℕ) → is_end w ≡ false → k ≡ opening (key w) → (r : Found (Bor (List ℕ))) →
+    MatchOption r ((rest : List ℕ) → s ≢ k ++ rest) (λ v. s ≡ k ++ v.now) → Opened w s r
+opened w s k e q None n =
+    line_other w s e (after-other (opening (key w)) s (λ v p. n v (p ∙ ap (λ (x : List ℕ). x ++ v) (sym q))))
+opened w s k e q (Some v) p =
+    let l = key-long w e in
+    let a = ap (λ (x : List ℕ). length x) p ∙ length-append k v.now in
+    let b = ap (λ (x : List ℕ). length x) q ∙ length-append (key w) (equals ∷ []) in (
+      omega arith,
+      line_value w s v.now e
+          (ap (after (opening (key w))) (p ∙ ap (λ (x : List ℕ). x ++ v.now) q) ∙ after_front (opening (key w)) v.now),
+    )
 
 -- ---- what a line makes of the reading of a sheet
 
