@@ -6,15 +6,16 @@ use mathlib.Core.Path.{◌≡◌, refl, sym, ap, subst}
 use mathlib.Core.List.{List}
 use Rattle.theory.specs.Grammar.{Reduced, NoRing}
 use Rattle.theory.specs.Table.{Table, count}
-use Rattle.lines.specs.Lines.{Lined, read_numbers}
+use Rattle.lines.specs.Lines.{Lined}
 use Rattle.lines.specs.Ranges.{InRange, FitLines}
 use Rattle.lines.specs.Ranges.Fitting.{read_fits, ranges_fit}
 use Rattle.table.specs.Check.{Check}
 use Rattle.table.specs.declared.Sizes.{Sizes}
+use Rattle.table.specs.declared.Unread.{Unread}
 use Rattle.table.specs.Check.{Checks, Answers, told}
 use Rattle.table.specs.Check.Exact.{unread, by_answer}
 use Rattle.table.specs.Checks.{Answer, unreduced, ringed, fails, sound, Lowest, NotReduced, OnRing, KeptBefore, FirstBroken}
-use Rattle.table.specs.Lined.{Fine}
+use Rattle.table.specs.Lined.{Refused, Fine, fault_of}
 use Rattle.table.specs.Places.{table_in}
 use Rattle.table.specs.Run.Right.{conditions}
 
@@ -51,10 +52,7 @@ fine_lines {ns} f = (read_fits ns _ f.fine).0
 pub answers_check : {ns : List ℕ} {t : Table} {r : Check} → FitLines ns t → Answers t r → Checks ns r
 answers_check {ns} {t} f (a, c, e) = subst (λ x. Checks ns x) (sym e) (by_answer ns t a (f, c))
 
--- too many numbers
-pub over-check : (ns : List ℕ) → read_numbers ns ≡ Lined.over → Checks ns (Err Fault.TooLong)
-over-check ns e = Checks.over ((unread ns Lined.over e).0 refl)
-
--- a line that does not fit
-pub unfit-check : (ns : List ℕ) (n : ℕ) → read_numbers ns ≡ Lined.unfit n → Checks ns (Err (Fault.Unfit n))
-unfit-check ns n e = let (l, s) = (unread ns (Lined.unfit n) e).1 n refl in Checks.unfit n l s
+-- the answer of numbers that are not those of a table's lines
+pub refused_check : (ns : List ℕ) (e : Unread) → Refused ns e → Checks ns (Err (fault_of e))
+refused_check ns Unread.TooLong e = Checks.over ((unread ns Lined.over e).0 refl)
+refused_check ns (Unread.Unfit n) e = let (l, s) = (unread ns (Lined.unfit n) e).1 n refl in Checks.unfit n l s

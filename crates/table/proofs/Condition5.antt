@@ -1,5 +1,5 @@
 -- Condition 5 holds exactly where every item moves onward and every go line is led to; and what the tests of an item tell.
-use Prim.Native.Nat.{ℕ, suc, ◌+◌, ◌-◌, ◌≤◌, ◌<◌}
+use Prim.Native.Nat.{ℕ, suc, ◌+◌, ◌-◌, ◌≤◌}
 use native.Mathlib.Omega.{arith}
 use native.Mathlib.Decide.{ℕ_discrete}
 use mathlib.Core.Path.{◌≡◌, refl, sym, ap, ◌∙◌, subst}
@@ -7,16 +7,14 @@ use mathlib.Core.Bool.{Bool}
 use mathlib.Core.List.{List, nil≢cons}
 use mathlib.Core.List.{Memᴰ as Mem}
 use lib.Dec.{eqb}
-use lib.ListN.{length, get_or}
+use lib.ListN.{get_or}
 use Rattle.theory.specs.Grammar.{Grammar}
-use Rattle.theory.specs.Table.{Table, Item, Go, state_at, InState, After, Complete, rule_at, Fits, Condition1, Condition2, Condition5}
+use Rattle.theory.specs.Table.{Table, Item, Go, state_at, InState, After, Complete, rule_at, Fits, Subset, Condition1, Condition2, Condition5}
 use Rattle.lines.specs.Limits.{max_right}
-use Rattle.lines.specs.Ranges.{ItemIn}
-use Rattle.table.specs.Members.{mem_at}
 use Rattle.table.specs.Tests.Tell.{Tells, tells_as, tells_eq}
 use Rattle.table.specs.Items.{Agrees}
 use Rattle.table.specs.Items.Dot.{after_dot, of_after}
-use Rattle.table.specs.Condition5.{Moved, AheadIn, Onward, Back, Led, MarksTell}
+use Rattle.table.specs.Condition5.{Moved, Onward, Back, Led, MarksTell}
 use Rattle.table.specs.Spots.{core_of, CoreIn}
 use Rattle.table.proofs.Spotted.{same_core}
 use Rattle.table.proofs.Distinct.{one_item, one_go}
@@ -62,16 +60,7 @@ module _ (t : Table) (s : ℕ) where
           (j : Item) × InState t l.to j × (j.rule ≡ i.rule) × (j.dot ≡ suc i.dot) × ((x : ℕ) → Mem x i.ahead → Mem x j.ahead)
       on l m (k, n, e, (j, u, v)) = (j, subst (λ z. InState t z.to j) (one_go t s F k l n m e) u, v.same_rule, v.next_dot, v.contains)
 
--- ---- sets as the code finds them
-
--- the set of what is in a state for a rule and a dot that are the same
-pub ahead_as : (t : Table) (s : ℕ) {r r' d d' set : ℕ} → r ≡ r' → d ≡ d' → AheadIn t s r d set → AheadIn t s r' d' set
-ahead_as t s {r' = r'} {d = d} {set = set} p q h = subst (λ e. AheadIn t s r' e set) q (subst (λ r. AheadIn t s r d set) p h)
-
--- it has tokens only
-pub ahead-low : (t : Table) (s : ℕ) → ((i : Item) → InState t s i → ItemIn t.grammar i) → (r d a : ℕ) →
-    (i : Item) × InState t s i × Agrees r d i × Mem a i.ahead → a < suc t.grammar.terms
-ahead-low t s each r d a (i, m, g, k) = let h = (each i m).ahead_in a k in omega arith
+-- ---- symbols as the code reads them
 
 -- the symbol before an item's dot is the one after the dot of the item that it comes from
 pub symbol_before : (g : Grammar) (i j : Item) → Agrees j.rule (j.dot - 1) i → {r d x : ℕ} → r ≡ j.rule → d ≡ j.dot →
@@ -125,30 +114,23 @@ module _ (t : Table) (s x : ℕ) (j : Item) where
   pub back_other : (j.dot ≡ 0 → ⊥) → ((i : Item) → Agrees j.rule (j.dot - 1) i → after_dot t.grammar i ≡ x → ⊥) → Back t s x j → ⊥
   back_other n other h = let (i, m, (more, e), v) = h (omega arith) in other i (before i v) (of_after t.grammar i x more e)
 
-  -- all that is in the set of an item of the state with its rule and the dot before is in its own
-  abbrev pub AllBack : Type 0
-  AllBack = (a : ℕ) → (i : Item) × InState t s i × Agrees j.rule (j.dot - 1) i × Mem a i.ahead → Mem a j.ahead
-
   -- an item that stands nowhere with the dot before does not come from the state
-  pub back_missing : ((i : Item) → InState t s i → 1 ≤ length i.ahead) → (j.dot ≡ 0 → ⊥) →
-      ((a : ℕ) → (i : Item) × InState t s i × Agrees j.rule (j.dot - 1) i × Mem a i.ahead → ⊥) → Back t s x j → ⊥
-  back_missing some n none h =
-      let (i, m, a, v) = h (omega arith) in
-      none (get_or i.ahead 0 0) (i, m, before i v, mem_at i.ahead 0 0 (some i m))
+  pub back_missing : (j.dot ≡ 0 → ⊥) → ((i : Item) → InState t s i → Agrees j.rule (j.dot - 1) i → ⊥) → Back t s x j → ⊥
+  back_missing n none h = let (i, m, a, v) = h (omega arith) in none i m (before i v)
 
-  -- where such an item is, and has x after its dot, this tells that the item comes from the state
+  -- where such an item is, and has x after its dot, what tells of its set tells that the item comes from the state
   pub back_tells : (i : Item) → InState t s i → Agrees j.rule (j.dot - 1) i → After t.grammar i x → (j.dot ≡ 0 → ⊥) → Condition2 t s →
-      {b : Bool} → Tells b AllBack → Tells b (Back t s x j)
+      {b : Bool} → Tells b (Subset i.ahead j.ahead) → Tells b (Back t s x j)
   back_tells i m g A n D = tells_as on from
     where
-      on : AllBack → Back t s x j
-      on f l = (i, m, A, record { same_rule = sym g.0; next_dot = (let e = g.1 in omega arith); contains = λ a k. f a (i, m, g, k) })
+      on : Subset i.ahead j.ahead → Back t s x j
+      on f l = (i, m, A, record { same_rule = sym g.0; next_dot = (let e = g.1 in omega arith); contains = f })
 
-      from : Back t s x j → AllBack
-      from h a (k, o, u, c) =
+      from : Back t s x j → Subset i.ahead j.ahead
+      from h =
           let (z, w, y, v) = h (omega arith) in
           let q = before z v in
-          v.contains a (subst (λ y. Mem a y.ahead) (one_item t s D k z o w (u.0 ∙ sym q.0) (u.1 ∙ sym q.1)) c)
+          subst (λ y. Subset y.ahead j.ahead) (one_item t s D z i w m (q.0 ∙ sym g.0) (q.1 ∙ sym g.1)) v.contains
 
 -- ---- a go line
 

@@ -1,4 +1,5 @@
 -- The shapes before the lines of the states: which lines are due there, and what is known where the first state line is due.
+use Rattle.std.specs.Prelude.{Some}
 use Prim.Native.Nat.{ℕ, zero, suc, ◌≤◌}
 use native.Mathlib.Omega.{arith}
 use mathlib.Core.Path.{◌≡◌, refl, sym, ap, subst}
@@ -17,10 +18,9 @@ use Rattle.lines.specs.Shape.Shaped.{due_of}
 use Rattle.lines.specs.declared.shape.Due.{Due}
 use Rattle.lines.specs.declared.shape.Due.TheVariants.{Terms, Nonterms, Rules, Rule, States, State, Item, Go, End}
 use Rattle.lines.specs.declared.shape.Shape.{Shape}
-use Rattle.lines.specs.declared.line.Accepted.TheVariants.{Next}
 use Rattle.table.specs.declared.Sizes.{Sizes}
 use Rattle.table.specs.Lined.{sizes_of}
-use Rattle.table.specs.States.{in_state, Readable}
+use Rattle.table.specs.States.{in_state, Within}
 use Rattle.table.specs.Walk.{Walked}
 
 -- what is known by the line that is due: none of a state is, and where the first state line is nothing of a state was read
@@ -76,7 +76,7 @@ states_heading s (suc m) h = record { before = refl }
 
 -- a line that fits keeps the shape before the states' lines, as long as it is not a state line
 pub next_heading : {s : Shape} → Heading s → (s.due ≡ State → ⊥) → (lengths xs : List ℕ) (s' : Shape) →
-    accepted s lengths xs ≡ Next s' → Heading s'
+    accepted s lengths xs ≡ Some s' → Heading s'
 unfolding next_shape fits_due
 next_heading {s} h n lengths xs s' a =
     let (f, e) = next_fit s lengths xs s' a in
@@ -99,17 +99,15 @@ next_heading {s} h n lengths xs s' a =
 -- ---- the states' lines
 
 module _ {ns : List ℕ} {p line : ℕ} {s : Shape} {lengths ra sa : List ℕ} (h : Walked ns p line s lengths ra sa) where
-  -- the states' lines can be read from here
-  pub walk_readable : length ns ≤ max_numbers → (z : Sizes) → z ≡ sizes_of s → Readable ns lengths z p
-  walk_readable m z e =
+  -- the states' lines can be read: all is within the limits
+  pub walk_within : length ns ≤ max_numbers → (z : Sizes) → z ≡ sizes_of s → Within ns z
+  walk_within m z e =
       let b = h.shaped.bounded in
       let t = ap (λ (x : Shape). x.terms) h.shaped.same in
       let r = ap (λ (x : Shape). x.rules) h.shaped.same in
       let c = ap (λ (x : Shape). x.states) h.shaped.same in
-      subst (λ x. Readable ns lengths x p) (sym e) (record {
+      subst (Within ns) (sym e) (record {
         few = m;
-        inside = h.inside;
-        lengths_are = h.shaped.long;
         terms_in = let i = b.terms_in in omega arith;
         rules_in = let i = b.rules_in in omega arith;
         states_in = let i = b.states_in in omega arith;

@@ -6,8 +6,8 @@ use mathlib.Core.Path.{◌≡◌, refl, sym, ap, subst, ◌∙◌}
 use mathlib.Core.Bool.{Bool, true, ◌&&◌}
 use mathlib.Core.List.{List, [], ◌∷◌}
 use mathlib.Core.List.{Memᴰ as Mem}
-use lib.ListN.{length, get_or, take, drop, set, length-drop, length-set}
-use lib.Seq.{drop-drop, length-take-le, get_or-set_same, get_or-set_other}
+use lib.ListN.{length, get_or, take, drop, set, length-set}
+use lib.Seq.{drop-drop, get_or-set_same, get_or-set_other}
 use lib.Dec.{leb}
 use borrow.Author.Count.{below_more}
 use borrow.Author.Tests.{leb-true}
@@ -15,7 +15,7 @@ use Rattle.theory.proofs.Basics.{both}
 use Rattle.lines.specs.Lines.Fits.{at, ahead_fits, fits_item}
 use Rattle.table.specs.Items.{item_in}
 use Rattle.table.specs.Sets.{SetOf}
-use Rattle.table.specs.States.{numbers_at, Numbers, line_place, SetIn, SetsTo}
+use Rattle.table.specs.States.{numbers_at, line_place, SetIn, SetsTo}
 
 -- ---- lists
 
@@ -42,13 +42,6 @@ item_long t rs xs f =
     let c : Bool = leb (at xs 1) (get_or rs (at xs 0) 1) in
     leb-true 3 (length xs) (both a b (both (a && b) c (both (a && b && c) (ahead_fits t (drop 2 xs)) f).0).0).0
 
--- as many as its count says
-pub numbers_long : {ns : List ℕ} {p n : ℕ} → Numbers ns p n → 1 ≤ n → length (numbers_at ns p) ≡ n
-numbers_long {ns} {p} {n} k some =
-    let ((a, b), e) = k.some some in
-    let d = length-drop (suc p) ns in
-    length-take-le (get_or ns p 0) (drop (suc p) ns) (omega arith) ∙ sym e
-
 -- the members of its look-ahead set are what its line has after the dot
 ahead-is : (ns : List ℕ) (p : ℕ) → drop 2 (numbers_at ns p) ≡ (item_in ns p).ahead
 unfolding item_in
@@ -63,18 +56,19 @@ pub sets_none : (ns : List ℕ) (t from : ℕ) (before : List ℕ) → SetsTo ns
 sets_none ns t from before = record { long = refl; each = λ i l. absurd (omega arith); kept = λ q l. refl }
 
 -- the place of the line after one at a place
-pub place_next : (ns : List ℕ) (from k p n : ℕ) → p ≡ line_place ns from k → n ≡ get_or ns p 0 → p + 1 + n ≡ line_place ns from (k + 1)
+pub place_next : (ns : List ℕ) (from k p n : ℕ) → p ≡ line_place ns from k → n ≡ get_or ns p 0 → p + (1 + n) ≡ line_place ns from (k + 1)
 unfolding line_place
 place_next ns from k p n e q =
-    (λ i. e i + 1 + (q ∙ ap (λ (x : ℕ). get_or ns x 0) e) i) ∙ ap (line_place ns from) (sym (add-one k))
+    let z : p + (1 + n) ≡ p + 1 + n = omega arith in
+    z ∙ (λ i. e i + 1 + (q ∙ ap (λ (x : ℕ). get_or ns x 0) e) i) ∙ ap (line_place ns from) (sym (add-one k))
 
 module _ {ns : List ℕ} {t from k p : ℕ} {before after : List ℕ} (h : SetsTo ns t from k p before after) (here : p ≡ line_place ns from k) where
   -- one item more
-  pub sets_more : {n v : ℕ} {next : List ℕ} → from ≤ p → 3 ≤ n → (xs : List ℕ) → xs ≡ numbers_at ns p →
-      SetOf (λ a. Mem a (drop 2 xs)) (suc t) v → next ≡ set after (p / 4) v → SetsTo ns t from (k + 1) (p + 1 + n) before next
-  sets_more {n} {v} {next} past some xs q sets w = record {
+  pub sets_more : {v : ℕ} {next : List ℕ} → from ≤ p → (xs : List ℕ) → 3 ≤ length xs → xs ≡ numbers_at ns p →
+      SetOf (λ a. Mem a (drop 2 xs)) (suc t) v → next ≡ set after (p / 4) v → SetsTo ns t from (k + 1) (p + (1 + length xs)) before next
+  sets_more {v} {next} past xs some q sets w = record {
     long = long ∙ h.long;
-    each = below_more _ _ (λ i l. let (a, b) = h.each i l in (old i a b, omega arith)) (subst (λ y. SetIn ns t next y × (y + 4 ≤ p + 1 + n)) here (new, omega arith));
+    each = below_more _ _ (λ i l. let (a, b) = h.each i l in (old i a b, omega arith)) (subst (λ y. SetIn ns t next y × (y + 4 ≤ p + (1 + length xs))) here (new, omega arith));
     kept = λ y l. kept y (omega arith) ∙ h.kept y l;
   }
     where

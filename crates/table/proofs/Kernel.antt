@@ -1,9 +1,8 @@
 -- Condition 1 from what the tests of its parts tell.
-use Prim.Native.Nat.{ℕ, suc, ◌<◌, ◌≤◌}
+use Prim.Native.Nat.{ℕ, suc, ◌≤◌}
 use native.Mathlib.Omega.{arith}
 use native.Mathlib.Decide.{ℕ_discrete}
 use mathlib.Core.Path.{◌≡◌, refl, sym, ap, ◌∙◌}
-use mathlib.Core.Bool.{Bool}
 use mathlib.Core.List.{List, [], ◌∷◌}
 use lib.ListN.{length, get_or}
 use lib.Dec.{eqb}
@@ -18,12 +17,6 @@ one_ahead [] n e q = absurd (omega arith)
 one_ahead (x ∷ y ∷ l) n e q = absurd (omega arith)
 one_ahead (x ∷ []) n {a} {b} e q =
     tells_as (λ h. ap (λ (y : ℕ). y ∷ []) (sym e ∙ (h ∙ q))) (λ h. e ∙ (ap (λ (l : List ℕ). get_or l 0 0) h ∙ sym q)) (tells_eq a b)
-
--- a state above 0
-pub kernel_above : {t : Table} {s : ℕ} {b : Bool} → 0 < s → AcceptsEnd t s → Tells b (SomeMoved t s) → Tells b (Condition1 t s)
-kernel_above l a m =
-    tells_as (λ h. record { first = λ e. absurd (omega arith); dots = λ e. absurd (omega arith); accept = a; kernel = λ n. h })
-    (λ h. h.kernel (λ e. omega arith)) m
 
 -- state 0, which has no dot above 0
 pub kernel_first : {t : Table} {s : ℕ} {a b : ℕ} → s ≡ 0 → 1 ≤ length (state_at t s).items → AcceptsEnd t s → (SomeMoved t s → ⊥) →
@@ -50,7 +43,3 @@ kernel_first {t} {s} {a} {b} z k e n f q = tells_as to from (tells_eq a b)
     from h =
         let (i, more, c, r) = h.first z in
         f ∙ (ap (λ (l : List Item). (get_or l 0 no_item).rule) c ∙ (r ∙ sym q))
-
--- a state 0 that has a dot above 0 breaks it
-pub kernel_moved : {t : Table} {s : ℕ} → s ≡ 0 → SomeMoved t s → Condition1 t s → ⊥
-kernel_moved z (i, m, l) h = let e = h.dots z i m in omega arith

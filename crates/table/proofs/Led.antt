@@ -8,18 +8,13 @@ use mathlib.Core.Logic.{◌⊎◌, inl, inr, ⊎_elim}
 use mathlib.Core.List.{List}
 use mathlib.Core.List.{Memᴰ as Mem}
 use lib.ListN.{length, get_or, set, take, replicate, length-set, length-replicate, get_or-replicate}
-use lib.Seq.{get_or-set_same, get_or-set_other, take-length}
+use lib.Seq.{get_or-set_same, get_or-set_other}
 use Rattle.theory.specs.Table.{Go, Table, state_at, Condition6}
 use Rattle.lines.specs.Limits.{max_states}
 use Rattle.table.specs.Conditions.Parts.{LeadsTo, Marked, LedBelow}
 use Rattle.table.specs.Places.{no_go}
 use Rattle.table.specs.Tests.Tell.{Tells, tells_as, tells_yes, tells_no}
-use Rattle.table.proofs.Order.{front_more, front_last, front_cases, front_none}
-
--- before the first go line nothing is marked
-pub mark_none : (gos : List Go) (marks : List Bool) → length marks ≡ max_states → Marked (take 0 gos) marks marks
-mark_none gos marks n =
-    record { long = n; told = λ x l. record { holds = λ e. inl e; shows = λ o. ⊎_elim (λ e. e) (λ (g, m, e). absurd (front_none gos m)) o } }
+use Rattle.table.proofs.Order.{front_more, front_last, front_cases}
 
 -- and one go line further
 pub mark_more : (gos : List Go) (k : ℕ) {before after : List Bool} {to : ℕ} → k < length gos → to ≡ (get_or gos k no_go).to → to < max_states →
@@ -43,10 +38,6 @@ mark_more gos k {before} {after} {to} l e b h = record { long = length-set after
     go x w (no q) =
         subst (λ v. Tells v ((get_or before x false ≡ true) ⊎ LeadsTo (take (k + 1) gos) x)) (sym (get_or-set_other after to x true false q))
         (tells_as (old x) (back x q) (h.told x w))
-
--- all go lines
-pub mark_all : (gos : List Go) (k : ℕ) {before after : List Bool} → k ≡ length gos → Marked (take k gos) before after → Marked gos before after
-mark_all gos k {before} {after} e h = subst (λ l. Marked l before after) (ap (λ (n : ℕ). take n gos) e ∙ take-length gos) h
 
 -- ---- all states below one
 

@@ -26,6 +26,8 @@ pub mod Every
 pub mod Rows
 pub mod Noted
 pub mod Asked
+pub mod FirstsTold
+pub mod NotedTable
 pub mod Condition4
 pub mod Marks
 pub mod Condition5

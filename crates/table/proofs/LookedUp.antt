@@ -7,20 +7,18 @@ use mathlib.Core.List.{List}
 use lib.ListN.{length}
 use Rattle.lines.specs.Lines.{Lined, read_numbers}
 use Rattle.lines.specs.Limits.{max_terms, max_nonterms, max_states}
-use Rattle.table.specs.declared.Read.{Read}
 use Rattle.table.specs.declared.Sizes.{Sizes}
-use Rattle.table.specs.Lined.{Reads, Fine}
+use Rattle.table.specs.declared.Unread.{Unread}
+use Rattle.table.specs.Lined.{Refused, Fine}
 use Rattle.table.specs.Places.{table_in}
 use Rattle.table.specs.Places.Step.{held_terms, held_nonterms}
 use Rattle.table.specs.LookUps.{LookUps, Looked, fit, room_for, roomy}
 
 -- lines that do not fit
-unfit_lines : (ns rules states : List ℕ) (k : Read) → ((z : Sizes) → k ≡ Read.Fits z → ⊥) → Reads ns rules states k →
-    fit (read_numbers ns) ≡ false
+unfit_lines : (ns : List ℕ) (e : Unread) → Refused ns e → fit (read_numbers ns) ≡ false
 unfolding fit
-unfit_lines ns rules states Read.TooLong h e = ap fit e
-unfit_lines ns rules states (Read.Unfit n) h e = ap fit e
-unfit_lines ns rules states (Read.Fits z) h e = absurd (h z refl)
+unfit_lines ns Unread.TooLong h = ap fit h
+unfit_lines ns (Unread.Unfit n) h = ap fit h
 
 -- nothing is changed
 unchanged : {ns acts go lens lefts : List ℕ} → (fit (read_numbers ns) && roomy (table_in ns) (length acts) (length go)) ≡ false →
@@ -28,9 +26,8 @@ unchanged : {ns acts go lens lefts : List ℕ} → (fit (read_numbers ns) && roo
 unchanged e = record { told = sym e; built = λ q. absurd (false≢true q); kept = λ q. (refl, refl, refl, refl) }
 
 -- so it is where the lines do not fit
-pub told_unfit : {ns acts go lens lefts : List ℕ} (rules states : List ℕ) (k : Read) → ((z : Sizes) → k ≡ Read.Fits z → ⊥) → Reads ns rules states k →
-    Looked ns acts go lens lefts acts go lens lefts false
-told_unfit {ns} {acts} {go} rules states k h e = unchanged (ap (λ (b : Bool). b && roomy (table_in ns) (length acts) (length go)) (unfit_lines ns rules states k h e))
+pub told_unfit : {ns acts go lens lefts : List ℕ} (e : Unread) → Refused ns e → Looked ns acts go lens lefts acts go lens lefts false
+told_unfit {ns} {acts} {go} e h = unchanged (ap (λ (b : Bool). b && roomy (table_in ns) (length acts) (length go)) (unfit_lines ns e h))
 
 -- ---- lines that fit
 

@@ -9,7 +9,8 @@ use Rattle.theory.specs.Table.{Table, state_at}
 use Rattle.lines.specs.Limits.{max_numbers}
 use Rattle.lines.specs.Ranges.{InRange}
 use Rattle.table.specs.declared.Sizes.{Sizes}
-use Rattle.table.specs.Aheads.{SetNoted, AllNoted, place_of}
+use Rattle.theory.proofs.Table.Actions.{has-mem, mem_has}
+use Rattle.table.specs.Aheads.{SetNoted, AllNoted, SetTold, AllTold, place_of}
 use Rattle.table.specs.Items.{AtItem}
 use Rattle.table.specs.Places.{found, no_table, table_in}
 use Rattle.table.proofs.Walked.{read_over}
@@ -35,3 +36,23 @@ noted_here {ns} {sets} places z all s l k g e = subst (SetNoted ns sets) (sym e)
 pub noted_walk : {ns sets : List ℕ} (places : List ℕ) (z : Sizes) → AllNoted ns places z sets → (s : ℕ) → s < z.states → {n k at : ℕ} →
     AtItem ns places s n k at → k < n → SetNoted ns sets at
 noted_walk places z all s l {n} {k} w g = let e = w.counted in noted_here places z all s l k (omega arith) w.stands
+
+-- ---- noted, and noted by a test
+
+pub told_set : {ns sets : List ℕ} {p : ℕ} → SetNoted ns sets p → SetTold ns sets p
+told_set n = record {
+  room = n.room;
+  set = record { below = n.set.below; holds = λ k i. mem_has (n.set.holds k i); shows = λ k l h. n.set.shows k l (has-mem _ k h) };
+}
+
+pub noted_set : {ns sets : List ℕ} {p : ℕ} → SetTold ns sets p → SetNoted ns sets p
+noted_set t = record {
+  room = t.room;
+  set = record { below = t.set.below; holds = λ k i. has-mem _ k (t.set.holds k i); shows = λ k l m. t.set.shows k l (mem_has m) };
+}
+
+pub all_told : {ns sets : List ℕ} (places : List ℕ) (z : Sizes) → AllNoted ns places z sets → AllTold ns places z sets
+all_told places z all s l k g = told_set (all s l k g)
+
+pub all_noted : {ns sets : List ℕ} (places : List ℕ) (z : Sizes) → AllTold ns places z sets → AllNoted ns places z sets
+all_noted places z all s l k g = noted_set (all s l k g)

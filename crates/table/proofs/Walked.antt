@@ -1,10 +1,11 @@
 -- Laws of what is known while the lines of a table are read: at the start, after a line that fits, and where the reading ends.
+use Rattle.std.specs.Prelude.{Some, None}
 use Prim.Native.Nat.{ℕ, suc, ◌+◌, ◌-◌, ◌≤◌, ◌<◌}
 use native.Mathlib.Omega.{arith}
 use mathlib.Core.Path.{◌≡◌, refl, sym, ap, ◌∙◌, subst}
 use mathlib.Core.Bool.{true, false}
 use mathlib.Core.List.{List, [], ◌∷◌}
-use lib.ListN.{length, get_or, set, take, drop, length-drop, length-set, drop_of_length-le}
+use lib.ListN.{length, get_or, take, drop, length-drop, length-set, drop_of_length-le}
 use lib.Seq.{drop-cons, drop-drop, length-take-le}
 use borrow.Author.Tests.{le-leb, lt-leb}
 use Rattle.theory.specs.Table.{Table}
@@ -19,7 +20,6 @@ use Rattle.lines.specs.Shape.Shaped.{due_of, start-shaped, step_next, step_unfit
 use Rattle.lines.specs.declared.shape.Due.{Due}
 use Rattle.lines.specs.declared.shape.Due.TheVariants.{Terms, Nonterms, Rules, Rule, States, State, Item, Go, End}
 use Rattle.lines.specs.declared.shape.Shape.{Shape}
-use Rattle.lines.specs.declared.line.Accepted.TheVariants.{Next, Unfit}
 use Rattle.table.specs.Places.{LineAt, found, table_in, RulesAt, StatesTo, StatesAt}
 use Rattle.table.specs.Lined.{rules_with, states_with, Notable, Fine}
 use Rattle.table.specs.Walk.{Stands, Drafted, Walked}
@@ -79,27 +79,6 @@ states_length s sa p = go s.due refl
     go Item e = rw (e, states_with) refl
     go Go e = rw (e, states_with) refl
     go End e = rw (e, states_with) refl
-
--- a rule line's place is noted among the rules'
-pub rule_noted : (s : Shape) (ra : List ℕ) (p : ℕ) → s.due ≡ Rule → rules_with s ra p ≡ set ra s.rules p
-unfolding rules_with
-rule_noted s ra p e = rw (e, rules_with) refl
-
--- any other line's is not
-pub other_rule : (s : Shape) (ra : List ℕ) (p : ℕ) → (s.due ≡ Rule → ⊥) → rules_with s ra p ≡ ra
-unfolding rules_with
-other_rule s ra p h = go s.due refl h
-  where
-    go : (w : Due) → s.due ≡ w → (w ≡ Rule → ⊥) → rules_with s ra p ≡ ra
-    go Terms e k = rw (e, rules_with) refl
-    go Nonterms e k = rw (e, rules_with) refl
-    go Rules e k = rw (e, rules_with) refl
-    go Rule e k = absurd (k refl)
-    go States e k = rw (e, rules_with) refl
-    go State e k = rw (e, rules_with) refl
-    go Item e k = rw (e, rules_with) refl
-    go Go e k = rw (e, rules_with) refl
-    go End e k = rw (e, rules_with) refl
 
 -- the places of the states are noted at a state line alone
 pub other_state : (s : Shape) (sa : List ℕ) (p : ℕ) → (s.due ≡ State → ⊥) → states_with s sa p ≡ sa
@@ -165,7 +144,7 @@ module _ {ns : List ℕ} {p line : ℕ} {s : Shape} {lengths ra sa : List ℕ} (
 
   -- the line does not fit
   pub walk_unfit : p < length ns → length ns ≤ max_numbers → get_or ns p 0 ≤ length ns - (p + 1) → (xs : List ℕ) → xs ≡ take (get_or ns p 0) (drop (suc p) ns) →
-      accepted s lengths xs ≡ Unfit → read_numbers ns ≡ Lined.unfit line
+      accepted s lengths xs ≡ None → read_numbers ns ≡ Lined.unfit line
   walk_unfit l m k xs q a =
       let e = left in
       let f = (step_unfit xs h.shaped a).1 in
@@ -174,7 +153,7 @@ module _ {ns : List ℕ} {p line : ℕ} {s : Shape} {lengths ra sa : List ℕ} (
 
   -- the line fits
   pub walk_next : p < length ns → get_or ns p 0 ≤ length ns - (p + 1) → (xs : List ℕ) → xs ≡ take (get_or ns p 0) (drop (suc p) ns) →
-      (s' : Shape) → accepted s lengths xs ≡ Next s' →
+      (s' : Shape) → accepted s lengths xs ≡ Some s' →
       Walked ns (p + 1 + get_or ns p 0) (line + 1) s' (lengths_after s lengths xs) (rules_with s ra p) (states_with s sa p)
   walk_next l k xs q s' a =
       let n = get_or ns p 0 in
@@ -245,10 +224,3 @@ pub walk_is : {ns : List ℕ} {p q line : ℕ} {s s' : Shape} {ls ls' ra ra' sa 
 walk_is {ns} {p} {q} {line} {s} {s'} {ls} {ls'} {ra} {ra'} {sa} {sa'} h a e b c d =
     subst (Walked ns q line s' ls' ra') d (subst (λ x. Walked ns q line s' ls' x sa) c (subst (λ x. Walked ns q line s' x ra sa) b
     (subst (λ x. Walked ns q line x ls ra sa) e (subst (λ x. Walked ns x line s ls ra sa) a h))))
-
--- the numbers of a line that goes on after its count
-pub part_is : (ns : List ℕ) (p n : ℕ) → n ≡ get_or ns p 0 → take (p + 1 + n - (p + 1)) (drop (p + 1) ns) ≡ take (get_or ns p 0) (drop (suc p) ns)
-part_is ns p n e =
-    let a : p + 1 + n - (p + 1) ≡ get_or ns p 0 = omega arith in
-    let b : p + 1 ≡ suc p = omega arith in
-    λ i. take (a i) (drop (b i) ns)

@@ -7,6 +7,7 @@ use Rattle.theory.specs.Table.{Item, rest}
 use Rattle.table.specs.Sets.{SetOf}
 use Rattle.table.specs.Places.{no_item}
 use Rattle.table.specs.Notions.{nonterm}
+pub mod Told
 
 -- the item has b after its dot and asks for a: a can begin the symbol next after b or, if b is last, is in the item's own set
 pub data Asks (g : Grammar) (b : ℕ) (i : Item) (a : ℕ) : Type 0 where

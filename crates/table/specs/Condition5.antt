@@ -1,10 +1,11 @@
 -- Condition 5 said of one item and of one go line of a state, and the marks of the items that are met in the targets of the go lines.
-use Rattle.std.specs.Prelude.{ℕ, suc, ◌-◌, ◌≤◌, ◌<◌, ◌≡◌, ◌⊎◌, List, length, get_or}
+use Rattle.std.specs.Prelude.{ℕ, suc, ◌-◌, ◌≤◌, ◌<◌, ◌≡◌, ◌⊎◌, Option, None, Some, List, length, get_or}
 use mathlib.Core.List.{Memᴰ as Mem}
 use Rattle.theory.specs.Table.{Table, Item, Go, state_at, InState, After, Subset}
 use Rattle.table.specs.Sets.{SetOf}
 use Rattle.table.specs.Items.{Agrees}
 use Rattle.table.specs.Spots.{cores, core_of}
+pub mod Spotted
 
 -- j is i with the dot moved on, and its set contains the old one
 pub record Moved (i j : Item) : Type 0 where
@@ -28,9 +29,10 @@ pub record MarksTo (s : ℕ) (marks : List ℕ) : Type 0 where
   pub low : (c : ℕ) → get_or marks c 0 ≤ s
 
 module _ (t : Table) (s : ℕ) where
-  -- the set of all that is in the set of an item of the state with this rule and this dot
-  abbrev pub AheadIn : ℕ → ℕ → ℕ → Type 0
-  AheadIn rule dot = SetOf (λ a. (i : Item) × InState t s i × Agrees rule dot i × Mem a i.ahead) (suc t.grammar.terms)
+  -- the look-ahead set of the state's item with this rule and this dot; none, if it has no such item
+  abbrev pub AheadOf : ℕ → ℕ → Option ℕ → Type 0
+  AheadOf rule dot (Some set) = (i : Item) × InState t s i × Agrees rule dot i × SetOf (λ a. Mem a i.ahead) (suc t.grammar.terms) set
+  AheadOf rule dot None = (i : Item) → InState t s i → Agrees rule dot i → ⊥
 
   -- the item with the dot moved on is in the target of a go line for the symbol after its dot
   abbrev pub Onward : Item → Type 0

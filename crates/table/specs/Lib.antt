@@ -5,6 +5,7 @@ pub mod Fit
 pub mod Example
 pub mod Members
 pub mod Places
+pub mod Props
 pub mod Sets
 pub mod Notions
 pub mod Firsts
@@ -16,6 +17,7 @@ pub mod Items
 pub mod Aheads
 pub mod Spots
 pub mod Conditions
+pub mod NotedTable
 pub mod Condition4
 pub mod Condition5
 pub mod Check

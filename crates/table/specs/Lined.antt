@@ -1,12 +1,13 @@
 -- Reading the lines of a table: what is answered, and the places that are noted on the way.
-use Rattle.std.specs.Prelude.{ℕ, ◌-◌, ◌≤◌, ◌<◌, ◌≡◌, List, set}
+use Rattle.std.specs.Prelude.{ℕ, ◌-◌, ◌≤◌, ◌<◌, ◌≡◌, List, set, Result, Ok, Err}
 use Rattle.lines.specs.Limits.{max_rules, max_numbers}
 use Rattle.lines.specs.Lines.{Lined, read_numbers}
 use Rattle.lines.specs.Ranges.{finished}
 use Rattle.lines.specs.declared.shape.Due.TheVariants.{Terms, Nonterms, Rules, Rule, States, State, Item, Go, End}
 use Rattle.lines.specs.declared.shape.Shape.{Shape}
-use Rattle.table.specs.declared.Read.{Read}
+use Rattle.table.specs.declared.Fault.{Fault}
 use Rattle.table.specs.declared.Sizes.{Sizes}
+use Rattle.table.specs.declared.Unread.{Unread}
 use Rattle.table.specs.Places.{table_in, Held, StatesAt}
 
 -- the places of the rules, with that of a rule line noted; other lines leave them
@@ -52,8 +53,17 @@ pub record Fine (ns rulePlaces statePlaces : List ℕ) (z : Sizes) : Type 0 wher
   pub held : Held ns rulePlaces z
   pub states_at : StatesAt ns statePlaces (table_in ns)
 
+-- the numbers are not those of a table's lines, for this reason
+abbrev pub Refused : List ℕ → Unread → Type 0
+Refused ns Unread.TooLong = read_numbers ns ≡ Lined.over
+Refused ns (Unread.Unfit n) = read_numbers ns ≡ Lined.unfit n
+
 -- what reading the numbers answers; where all lines fit the places are noted
-abbrev pub Reads : List ℕ → List ℕ → List ℕ → Read → Type 0
-Reads ns rulePlaces statePlaces Read.TooLong = read_numbers ns ≡ Lined.over
-Reads ns rulePlaces statePlaces (Read.Unfit n) = read_numbers ns ≡ Lined.unfit n
-Reads ns rulePlaces statePlaces (Read.Fits z) = Fine ns rulePlaces statePlaces z
+abbrev pub Reads : List ℕ → List ℕ → List ℕ → Result Sizes Unread → Type 0
+Reads ns rulePlaces statePlaces (Err e) = Refused ns e
+Reads ns rulePlaces statePlaces (Ok z) = Fine ns rulePlaces statePlaces z
+
+-- the fault that such a reason is
+abbrev pub fault_of : Unread → Fault
+fault_of Unread.TooLong = Fault.TooLong
+fault_of (Unread.Unfit n) = Fault.Unfit n

@@ -1,15 +1,18 @@
 -- Reading the lines of a table's states: what it comes to, for whatever lines were read before, and the look-ahead sets that are noted on the way.
-use Rattle.std.specs.Prelude.{ℕ, zero, suc, ◌+◌, ◌-◌, ◌*◌, ◌/◌, ◌≤◌, ◌<◌, ◌≡◌, Bool, true, false, List, length, get_or, take, drop, set}
+use Rattle.std.specs.Prelude.{ℕ, zero, suc, ◌+◌, ◌-◌, ◌*◌, ◌/◌, ◌≤◌, ◌<◌, ◌≡◌, true, false, List, length, get_or, take, drop, set, Option, Some, None, Result, Ok, Err, MatchOption}
+use Rattle.std.specs.Borrow.{Bor}
 use mathlib.Core.List.{Memᴰ as Mem}
 use Rattle.lines.specs.Limits.{max_terms, max_rules, max_states, max_numbers}
-use Rattle.lines.specs.Lines.{Lined, read_numbers}
 use Rattle.lines.specs.Lines.Fits.{ahead_fits, fits_item}
 use Rattle.lines.specs.Shape.{due_while}
 use Rattle.lines.specs.declared.shape.Due.{Due}
 use Rattle.lines.specs.declared.shape.Due.TheVariants.{State, Item, Go, End}
 use Rattle.lines.specs.declared.shape.Shape.{Shape}
 use Rattle.table.specs.declared.Sizes.{Sizes}
+use Rattle.table.specs.declared.Unread.{Unread}
+use Rattle.table.specs.declared.states.Reached.{Reached}
 use Rattle.table.specs.Items.{item_in}
+use Rattle.table.specs.Lined.{Refused}
 use Rattle.table.specs.Sets.{SetOf}
 use Rattle.table.specs.Walk.{Walked}
 
@@ -23,20 +26,19 @@ numbers_at ns p = take (get_or ns p 0) (drop (suc p) ns)
 abbrev pub Whole : List ℕ → ℕ → Type 0
 Whole ns p = (p < length ns) × (get_or ns p 0 ≤ length ns - (p + 1))
 
--- how many numbers the line at a place has; none also where no whole line stands
-pub record Numbers (ns : List ℕ) (p n : ℕ) : Type 0 where
-  pub some : 1 ≤ n → Whole ns p × (n ≡ get_or ns p 0)
-  pub none : n ≡ 0 → Whole ns p → get_or ns p 0 ≡ 0
+-- the numbers of the line at a place, where a whole line stands
+abbrev pub LineOf : List ℕ → ℕ → Option (Bor (List ℕ)) → Type 0
+LineOf ns p o = MatchOption o (Whole ns p → ⊥) (λ xs. Whole ns p × (xs.now ≡ numbers_at ns p))
 
--- what reading a look-ahead set tells: whether it fits, and if so the set of its members
-pub record AheadRead (terms : ℕ) (xs : List ℕ) (fits : Bool) (made : ℕ) : Type 0 where
-  pub told : fits ≡ ahead_fits terms xs
-  pub set : fits ≡ true → SetOf (λ a. Mem a xs) (suc terms) made
+-- what reading a look-ahead set answers: the set of its members, if it fits
+abbrev pub AheadRead : ℕ → List ℕ → Option ℕ → Type 0
+AheadRead terms xs None = ahead_fits terms xs ≡ false
+AheadRead terms xs (Some made) = (ahead_fits terms xs ≡ true) × SetOf (λ a. Mem a xs) (suc terms) made
 
--- what reading an item line tells: whether it fits after rules whose right sides have these lengths, and if so its look-ahead set
-pub record ItemRead (terms : ℕ) (rights xs : List ℕ) (fits : Bool) (made : ℕ) : Type 0 where
-  pub told : fits ≡ fits_item terms rights xs
-  pub set : fits ≡ true → SetOf (λ a. Mem a (drop 2 xs)) (suc terms) made
+-- what reading an item line answers: its look-ahead set, if it fits after rules whose right sides have these lengths
+abbrev pub ItemRead : ℕ → List ℕ → List ℕ → Option ℕ → Type 0
+ItemRead terms rights xs None = fits_item terms rights xs ≡ false
+ItemRead terms rights xs (Some made) = (fits_item terms rights xs ≡ true) × SetOf (λ a. Mem a (drop 2 xs)) (suc terms) made
 
 -- ---- shapes
 
@@ -62,33 +64,38 @@ in_state z j zero zero a = shape_in (due_while j State End) z j 0 0 0
 in_state z j zero (suc l) a = shape_in Go z j 0 (suc l) a
 in_state z j (suc i) l a = shape_in Item z j (suc i) l a
 
--- kinds, rules and states are within the limits, the lengths have all their places, the numbers are not too many, and the place is inside them
-pub record Readable (ns lengths : List ℕ) (z : Sizes) (from : ℕ) : Type 0 where
+-- the numbers are not too many, and kinds, rules and states are within the limits
+pub record Within (ns : List ℕ) (z : Sizes) : Type 0 where
   pub few : length ns ≤ max_numbers
-  pub inside : from ≤ length ns
-  pub lengths_are : length lengths ≡ max_rules
   pub terms_in : z.terms ≤ max_terms
   pub rules_in : z.rules ≤ max_rules
   pub states_in : z.states ≤ max_states
 
+-- a reading has come to a place inside the numbers; every line before it has a count at least
+pub record Inside (ns : List ℕ) (r : Reached) : Type 0 where
+  pub inside : r.at ≤ length ns
+  pub counted : r.line ≤ r.at
+
 -- ---- lines one after the other
 
--- the place reached is inside the numbers, and at least as many places on as lines were read: each has a count at least
-pub record Reach (ns : List ℕ) (from at done : ℕ) : Type 0 where
-  pub inside : at ≤ length ns
-  pub counted : from + done ≤ at
+-- the lines from one place to another make the one shape the other, whatever was read before
+pub record Goes (ns lengths : List ℕ) (s s' : Shape) (from to : Reached) : Type 0 where
+  pub on : {ra sa : List ℕ} → Walked ns from.at from.line s lengths ra sa → Walked ns to.at to.line s' lengths ra sa
 
--- Lines from a place on, whatever was read before: if all fit, they make the one shape the other; if not, the first that does not is told.
-pub record Goes (ns lengths : List ℕ) (s s' : Shape) (from at done : ℕ) (whole : Bool) : Type 0 where
-  pub on : whole ≡ true → {line : ℕ} {ra sa : List ℕ} → Walked ns from line s lengths ra sa → Walked ns at (line + done) s' lengths ra sa
-  pub stop : whole ≡ false → {line : ℕ} {ra sa : List ℕ} → Walked ns from line s lengths ra sa → read_numbers ns ≡ Lined.unfit (line + done)
+-- after that shape the lines from a place on are not read, for this reason
+pub record Stops (ns lengths : List ℕ) (s : Shape) (from : Reached) (e : Unread) : Type 0 where
+  pub stop : {ra sa : List ℕ} → Walked ns from.at from.line s lengths ra sa → Refused ns e
 
--- all lines of a state from a place on; the place is noted as the state's
-pub record StateGoes (ns lengths : List ℕ) (z : Sizes) (from at done : ℕ) (whole : Bool) : Type 0 where
-  pub on : whole ≡ true → (j : ℕ) → suc j ≤ z.states → {line : ℕ} {ra sa : List ℕ} → Walked ns from line (in_state z (suc j) 0 0 0) lengths ra sa →
-      Walked ns at (line + done) (in_state z j 0 0 0) lengths ra (set sa (z.states - suc j) from)
-  pub stop : whole ≡ false → (j : ℕ) → {line : ℕ} {ra sa : List ℕ} → Walked ns from line (in_state z (suc j) 0 0 0) lengths ra sa →
-      read_numbers ns ≡ Lined.unfit (line + done)
+-- all lines of a state from one place to another; the first place is noted as the state's
+pub record StateGoes (ns lengths : List ℕ) (z : Sizes) (from to : Reached) : Type 0 where
+  pub on : (j : ℕ) → suc j ≤ z.states → {ra sa : List ℕ} → Walked ns from.at from.line (in_state z (suc j) 0 0 0) lengths ra sa →
+      Walked ns to.at to.line (in_state z j 0 0 0) lengths ra (set sa (z.states - suc j) from.at)
+
+-- reading on from a place has come to another, at least as many places on as lines were read: each has a count at least
+pub record Reach (ns : List ℕ) (from to : Reached) : Type 0 where
+  pub inside : Inside ns to
+  pub lines : from.line ≤ to.line
+  pub past : from.at + to.line ≤ to.at + from.line
 
 -- ---- the sets noted
 
@@ -111,3 +118,25 @@ pub record SetsTo (ns : List ℕ) (terms from k at : ℕ) (before after : List �
 abbrev pub StatesSets : List ℕ → ℕ → List ℕ → ℕ → ℕ → List ℕ → Type 0
 StatesSets ns terms places s at sets = (u : ℕ) → u < s → (k : ℕ) → k < get_or ns (get_or places u 0 + 1) 0 →
     SetIn ns terms sets (line_place ns (get_or places u 0 + 3) k) × (line_place ns (get_or places u 0 + 3) k + 4 ≤ at)
+
+-- ---- what the readings answer
+
+-- of a state's items: where all fit the place after them, so many lines on, and their look-ahead sets are noted where there is room
+abbrev pub ItemsRead : List ℕ → List ℕ → Sizes → Reached → ℕ → List ℕ → List ℕ → Result Reached Unread → Type 0
+ItemsRead ns lengths z from count before after (Ok to) =
+    Reach ns from to × (to.line ≡ from.line + count) ×
+    ((j l : ℕ) → Goes ns lengths (in_state z j count l 0) (in_state z j 0 l 0) from to) × SetsTo ns z.terms from.at count to.at before after
+ItemsRead ns lengths z from count before after (Err e) = (j l : ℕ) → Stops ns lengths (in_state z j count l 0) from e
+
+-- of a state's go lines: where all fit the place after them, so many lines on
+abbrev pub GosRead : List ℕ → List ℕ → Sizes → Reached → ℕ → Result Reached Unread → Type 0
+GosRead ns lengths z from count (Ok to) =
+    Reach ns from to × (to.line ≡ from.line + count) × ((j : ℕ) → Goes ns lengths (in_state z j 0 count 0) (in_state z j 0 0 0) from to)
+GosRead ns lengths z from count (Err e) = (j : ℕ) → Stops ns lengths (in_state z j 0 count 0) from e
+
+-- of a state, its own line among them: the same, and the sets of its items
+abbrev pub StateRead : List ℕ → List ℕ → Sizes → Reached → List ℕ → List ℕ → Result Reached Unread → Type 0
+StateRead ns lengths z from before after (Ok to) =
+    Reach ns from to × StateGoes ns lengths z from to ×
+    SetsTo ns z.terms (from.at + 3) (get_or ns (from.at + 1) 0) to.at before after
+StateRead ns lengths z from before after (Err e) = (j : ℕ) → Stops ns lengths (in_state z (suc j) 0 0 0) from e

@@ -1,175 +1,171 @@
 // Condition 5: a state's go lines, and the items of their targets, are what its items move on to.
-ghost use Rattle.std.specs.Prelude.{◌≡◌, true, suc, ◌<◌, length, get_or};
+ghost use Rattle.std.specs.Prelude.{◌≡◌, true, suc, ◌<◌, get_or};
 ghost use mathlib.Core.List.{Memᴰ as Mem};
-ghost use Rattle.theory.specs.Table.{Item, Go, state_at as nth_state, InState, Condition5};
-ghost use Rattle.lines.specs.Limits.{max_states};
-ghost use Rattle.lines.specs.Ranges.{InRange};
-ghost use Rattle.table.specs.Places.{Held, table_in};
-ghost use Rattle.table.specs.Items.{item_in, go_here, ItemHeld, GoHere, StatesHeld};
-ghost use Rattle.table.specs.Aheads.{SetNoted, AllNoted};
-ghost use Rattle.table.specs.Spots.{cores, core_of, CoreIn, Spots};
+ghost use Rattle.theory.specs.Table.{Item, Go, state_at as nth_state, InState, Condition2, Condition5};
+ghost use Rattle.table.specs.Places.{table_in};
+ghost use Rattle.table.specs.Items.{go_here, ItemHeld, GoHere};
+ghost use Rattle.table.specs.NotedTable.{table_of, item_of, ItemNoted};
+ghost use Rattle.table.specs.Spots.{core_of, CoreIn, Spots};
 ghost use Rattle.table.specs.Tests.Tell.{Tells};
 ghost use Rattle.table.specs.Checks.{KeptBefore};
 ghost use Rattle.table.specs.Conditions.{LowestBreaker};
-ghost use Rattle.table.specs.Condition5.{From, MarkedAt, MarksTo, AheadIn, Onward, Back, Led, MetIn, Met, MarksTell};
+ghost use Rattle.table.specs.Condition5.{From, MarkedAt, MarksTo, AheadOf, Onward, Back, Led, MetIn, Met, MarksTell};
+ghost use Rattle.table.specs.Condition5.Spotted.{AllSpots, condition2-prop, all_spots-prop};
 
-use crate::Sizes;
-use crate::aheads::set_at;
-use crate::items::{
-    after_dot, first_go, first_item, go_count, go_on, go_to, item_count, item_dot, item_rule,
-    next_item, symbol_at,
-};
-use crate::places::wide_byte;
+use crate::aheads::Noted;
 use crate::sets::within;
 use crate::spots::{CORES, core, note_items, spot_of};
-use lines::Shape;
 
-// The look-ahead set of a state's item with this rule and this dot; the empty set if it has none.
-fn set_of(
-    table: &[u16],
-    state_at: &[u16; Shape::MAX_STATES],
-    sizes: Sizes,
-    sets: &[u64],
-    spots: &[u16; CORES],
+// A state whose go lines are asked about: no two of its items agree in rule and dot, and the places of all of them
+// are noted.
+#[derive(Clone, Copy)]
+struct Source<'a> {
+    noted: &'a Noted<'a>,
     s: usize,
-    rule: usize,
-    dot: usize,
-) -> u64
-    requires { StatesHeld table.now state_at.now sizes × KeptBefore (table_in table.now) 5 × (s < sizes.states) × AllNoted table.now state_at.now sizes sets.now × Spots table.now state_at.now s (length (nth_state (table_in table.now) s).items) spots.now × CoreIn rule dot }
-    ensures { AheadIn (table_in table.now) s rule dot result }
-{
-    let at = spot_of(spots, rule, dot);
-    if at < first_item(table, state_at, sizes, s) {
-        return 0;
-    }
-    set_at(table, sets, at)
+    spots: &'a [u16; CORES],
+    ghost here: { s < noted.now.table.now.sizes.states },
+    ghost distinct: { Condition2 (table_of noted.now) s } by { condition2-prop (table_of noted.now) s },
+    ghost spotted: { AllSpots noted.now.table.now s spots.now } by { all_spots-prop noted.now.table.now s spots.now },
 }
 
-// Whether the item at a place, if its dot is above 0, is an item of the state that has x after its dot, with the dot moved on.
-fn comes_back(
-    table: &[u16],
-    rule_at: &[u16; Shape::MAX_RULES],
-    state_at: &[u16; Shape::MAX_STATES],
-    sizes: Sizes,
-    sets: &[u64],
-    spots: &[u16; CORES],
-    s: usize,
-    x: usize,
-    at: usize,
-) -> bool
-    requires { Held table.now rule_at.now sizes × StatesHeld table.now state_at.now sizes × KeptBefore (table_in table.now) 5 × (s < sizes.states) × (x ≡ sizes.terms → ⊥) × ItemHeld table.now at × AllNoted table.now state_at.now sizes sets.now × Spots table.now state_at.now s (length (nth_state (table_in table.now) s).items) spots.now × SetNoted table.now sets.now at }
-    ensures { Tells result (Back (table_in table.now) s x (item_in table.now at)) }
-{
-    let d = item_dot(table, at);
-    if d == 0 {
-        return true;
+impl Source<'_> {
+    // The look-ahead set of the state's item with this rule and this dot, if it has one.
+    fn set_of(&self, rule: usize, dot: usize) -> Option<u64>
+        requires { CoreIn rule dot }
+        ensures { AheadOf (table_of self.now.noted.now) self.now.s rule dot result }
+    {
+        let at = spot_of(self.spots, rule, dot);
+        if at < self.noted.table.first_item(self.s) {
+            return None;
+        }
+        Some(self.noted.set_at(at))
     }
-    let r = item_rule(table, at);
-    if symbol_at(table, rule_at, sizes, r, d - 1) != x {
-        return false;
-    }
-    let old = set_of(table, state_at, sizes, sets, spots, s, r, d - 1);
-    if old == 0 {
-        return false;
-    }
-    within(old, set_at(table, sets, at))
-}
 
-// Sets the mark of state s at the rule and the dot that the item at a place, if its dot is above 0, comes from.
-fn mark(table: &[u16], s: usize, at: usize, marks: &mut [u8; CORES])
-    requires { ItemHeld table.now at × InRange (table_in table.now) × (s < max_states) × (length marks.old ≡ cores) }
-    ensures { MarkedAt s (From (item_in table.now at)) marks.old marks.new }
-{
-    let d = item_dot(table, at);
-    if d > 0 {
-        let c = core(item_rule(table, at), d - 1);
-        marks[c] = (s + 1) as u8;
-    }
-}
-
-// Whether all items of a go line's target come from the state; these are marked.
-fn all_back(
-    table: &[u16],
-    rule_at: &[u16; Shape::MAX_RULES],
-    state_at: &[u16; Shape::MAX_STATES],
-    sizes: Sizes,
-    sets: &[u64],
-    spots: &[u16; CORES],
-    s: usize,
-    x: usize,
-    to: usize,
-    marks: &mut [u8; CORES],
-) -> bool
-    requires { Held table.now rule_at.now sizes × StatesHeld table.now state_at.now sizes × KeptBefore (table_in table.now) 5 × (s < sizes.states) × (x ≡ sizes.terms → ⊥) × (to < sizes.states) × AllNoted table.now state_at.now sizes sets.now × Spots table.now state_at.now s (length (nth_state (table_in table.now) s).items) spots.now × (length marks.old ≡ cores) }
-    ensures tells { Tells result ((j : Item) → InState (table_in table.now) to j → Back (table_in table.now) s x j) }
-    ensures marked_at { result ≡ true → MarkedAt s (MetIn (table_in table.now) s to) marks.old marks.new }
-{
-    let n = item_count(table, state_at, sizes, to);
-    let mut at = first_item(table, state_at, sizes, to);
-    let mut k = 0;
-    while k < n {
-        if !comes_back(table, rule_at, state_at, sizes, sets, spots, s, x, at) {
+    // Whether the item at a place, if its dot is above 0, is an item of the state that has x after its dot, with the
+    // dot moved on.
+    // A `match` and no `is_some_and`: of its closure the proof did not learn what `within` says.
+    fn comes_back(&self, x: usize, at: usize) -> bool
+        requires symbol { x ≡ self.now.noted.now.table.now.sizes.terms → ⊥ }
+        requires item { ItemNoted self.now.noted.now at }
+        ensures { Tells result (Back (table_of self.now.noted.now) self.now.s x (item_of self.now.noted.now at)) }
+    {
+        let t = self.noted.table;
+        let d = t.item_dot(at);
+        if d == 0 {
+            return true;
+        }
+        let r = t.item_rule(at);
+        if t.symbol_at(r, d - 1) != x {
             return false;
         }
-        mark(table, s, at, marks);
-        at = next_item(table, at);
-        k += 1;
-    }
-    true
-}
-
-// Whether the go line at a place leads to another state than 0, all of whose items come from the state; these are marked.
-fn led(
-    table: &[u16],
-    rule_at: &[u16; Shape::MAX_RULES],
-    state_at: &[u16; Shape::MAX_STATES],
-    sizes: Sizes,
-    sets: &[u64],
-    spots: &[u16; CORES],
-    s: usize,
-    at: usize,
-    marks: &mut [u8; CORES],
-) -> bool
-    requires { Held table.now rule_at.now sizes × StatesHeld table.now state_at.now sizes × KeptBefore (table_in table.now) 5 × (s < sizes.states) × GoHere table.now at (go_here table.now at) × AllNoted table.now state_at.now sizes sets.now × Spots table.now state_at.now s (length (nth_state (table_in table.now) s).items) spots.now × (length marks.old ≡ cores) }
-    ensures tells { Tells result (Led (table_in table.now) s (go_here table.now at)) }
-    ensures marked_at { result ≡ true → MarkedAt s (MetIn (table_in table.now) s (go_here table.now at).to) marks.old marks.new }
-{
-    let x = go_on(table, at);
-    let to = go_to(table, at);
-    if to == 0 {
-        return false;
-    }
-    all_back(
-        table, rule_at, state_at, sizes, sets, spots, s, x, to, marks,
-    )
-}
-
-// Whether all go lines of a state lead to other states than 0, all of whose items come from the state; these are marked.
-fn all_led(
-    table: &[u16],
-    rule_at: &[u16; Shape::MAX_RULES],
-    state_at: &[u16; Shape::MAX_STATES],
-    sizes: Sizes,
-    sets: &[u64],
-    spots: &[u16; CORES],
-    s: usize,
-    marks: &mut [u8; CORES],
-) -> bool
-    requires { Held table.now rule_at.now sizes × StatesHeld table.now state_at.now sizes × KeptBefore (table_in table.now) 5 × (s < sizes.states) × AllNoted table.now state_at.now sizes sets.now × Spots table.now state_at.now s (length (nth_state (table_in table.now) s).items) spots.now × (length marks.old ≡ cores) }
-    ensures tells { Tells result ((l : Go) → Mem l (nth_state (table_in table.now) s).gos → Led (table_in table.now) s l) }
-    ensures marked_at { result ≡ true → MarkedAt s (Met (table_in table.now) s) marks.old marks.new }
-{
-    let n = go_count(table, state_at, sizes, s);
-    let mut at = first_go(table, state_at, sizes, s);
-    let mut k = 0;
-    while k < n {
-        if !led(table, rule_at, state_at, sizes, sets, spots, s, at, marks) {
-            return false;
+        match self.set_of(r, d - 1) {
+            Some(old) => within(old, self.noted.set_at(at)),
+            None => false,
         }
-        at += 3;
-        k += 1;
     }
-    true
+
+    // Sets the state's mark at the rule and the dot that the item at a place, if its dot is above 0, comes from.
+    fn mark(&self, at: usize, marks: &mut [u8; CORES])
+        requires { ItemHeld self.now.noted.now.table.now.numbers.now at }
+        ensures { MarkedAt self.now.s (From (item_of self.now.noted.now at)) marks.old marks.new }
+    {
+        let t = self.noted.table;
+        let d = t.item_dot(at);
+        if d > 0 {
+            let c = core(t.item_rule(at), d - 1);
+            marks[c] = (self.s + 1) as u8;
+        }
+    }
+
+    // Whether all items of a go line's target come from the state; these are marked.
+    fn all_back(&self, x: usize, to: usize, marks: &mut [u8; CORES]) -> bool
+        requires symbol { x ≡ self.now.noted.now.table.now.sizes.terms → ⊥ }
+        requires target { to < self.now.noted.now.table.now.sizes.states }
+        ensures tells { let t = table_of self.now.noted.now in
+            Tells result ((j : Item) → InState t to j → Back t self.now.s x j) }
+        ensures marked_at { result ≡ true →
+            MarkedAt self.now.s (MetIn (table_of self.now.noted.now) self.now.s to) marks.old marks.new }
+    {
+        let t = self.noted.table;
+        let n = t.item_count(to);
+        let mut at = t.first_item(to);
+        for _ in 0..n {
+            if !self.comes_back(x, at) {
+                return false;
+            }
+            self.mark(at, marks);
+            at = t.next_item(at);
+        }
+        true
+    }
+
+    // Whether the go line at a place leads to another state than 0, all of whose items come from the state; these are
+    // marked.
+    fn led(&self, at: usize, marks: &mut [u8; CORES]) -> bool
+        requires { let ns = self.now.noted.now.table.now.numbers.now in GoHere ns at (go_here ns at) }
+        ensures tells { let ns = self.now.noted.now.table.now.numbers.now in
+            Tells result (Led (table_in ns) self.now.s (go_here ns at)) }
+        ensures marked_at { let ns = self.now.noted.now.table.now.numbers.now in
+            result ≡ true →
+            MarkedAt self.now.s (MetIn (table_in ns) self.now.s (go_here ns at).to) marks.old marks.new }
+    {
+        let x = self.noted.table.go_on(at);
+        let to = self.noted.table.go_to(at);
+        to > 0 && self.all_back(x, to, marks)
+    }
+
+    // Whether all go lines of the state lead to other states than 0, all of whose items come from the state; these are
+    // marked.
+    fn all_led(&self, marks: &mut [u8; CORES]) -> bool
+        ensures tells { let t = table_of self.now.noted.now in
+            Tells result ((l : Go) → Mem l (nth_state t self.now.s).gos → Led t self.now.s l) }
+        ensures marked_at { result ≡ true →
+            MarkedAt self.now.s (Met (table_of self.now.noted.now) self.now.s) marks.old marks.new }
+    {
+        let n = self.noted.table.go_count(self.s);
+        let mut at = self.noted.table.first_go(self.s);
+        for _ in 0..n {
+            if !self.led(at, marks) {
+                return false;
+            }
+            at += 3;
+        }
+        true
+    }
+
+    // Whether the item at a place moves on: it is complete, or was met with the dot moved on.
+    fn moves_on(&self, marks: &[u8; CORES], at: usize) -> bool
+        requires held { ItemHeld self.now.noted.now.table.now.numbers.now at }
+        requires here { InState (table_of self.now.noted.now) self.now.s (item_of self.now.noted.now at) }
+        requires led { let t = table_of self.now.noted.now in
+            (l : Go) → Mem l (nth_state t self.now.s).gos → Led t self.now.s l }
+        requires marks { MarksTell (table_of self.now.noted.now) self.now.s marks.now }
+        ensures { Tells result (Onward (table_of self.now.noted.now) self.now.s (item_of self.now.noted.now at)) }
+    {
+        let t = self.noted.table;
+        t.after_dot(at) == t.sizes.terms
+            || mark_at(marks, t.item_rule(at), t.item_dot(at)) == self.s + 1
+    }
+
+    // Whether all items of the state move on.
+    fn all_move(&self, marks: &[u8; CORES]) -> bool
+        requires led { let t = table_of self.now.noted.now in
+            (l : Go) → Mem l (nth_state t self.now.s).gos → Led t self.now.s l }
+        requires marks { MarksTell (table_of self.now.noted.now) self.now.s marks.now }
+        ensures { let t = table_of self.now.noted.now in
+            Tells result ((i : Item) → InState t self.now.s i → Onward t self.now.s i) }
+    {
+        let t = self.noted.table;
+        let n = t.item_count(self.s);
+        let mut at = t.first_item(self.s);
+        for _ in 0..n {
+            if !self.moves_on(marks, at) {
+                return false;
+            }
+            at = t.next_item(at);
+        }
+        true
+    }
 }
 
 // The mark at a rule and a dot.
@@ -177,96 +173,35 @@ fn mark_at(marks: &[u8; CORES], rule: usize, dot: usize) -> usize
     requires { CoreIn rule dot }
     ensures { result ≡ get_or marks.now (core_of rule dot) 0 }
 {
-    wide_byte(marks[core(rule, dot)])
-}
-
-// Whether the item at a place moves on: it is complete, or was met with the dot moved on.
-fn moves_on(
-    table: &[u16],
-    rule_at: &[u16; Shape::MAX_RULES],
-    state_at: &[u16; Shape::MAX_STATES],
-    sizes: Sizes,
-    marks: &[u8; CORES],
-    s: usize,
-    at: usize,
-) -> bool
-    requires { Held table.now rule_at.now sizes × StatesHeld table.now state_at.now sizes × KeptBefore (table_in table.now) 5 × (s < sizes.states) × ItemHeld table.now at × InState (table_in table.now) s (item_in table.now at) × ((l : Go) → Mem l (nth_state (table_in table.now) s).gos → Led (table_in table.now) s l) × MarksTell (table_in table.now) s marks.now }
-    ensures { Tells result (Onward (table_in table.now) s (item_in table.now at)) }
-{
-    if after_dot(table, rule_at, sizes, at) == sizes.terms {
-        return true;
-    }
-    mark_at(marks, item_rule(table, at), item_dot(table, at)) == s + 1
-}
-
-// Whether all items of a state move on.
-fn all_move(
-    table: &[u16],
-    rule_at: &[u16; Shape::MAX_RULES],
-    state_at: &[u16; Shape::MAX_STATES],
-    sizes: Sizes,
-    marks: &[u8; CORES],
-    s: usize,
-) -> bool
-    requires { Held table.now rule_at.now sizes × StatesHeld table.now state_at.now sizes × KeptBefore (table_in table.now) 5 × (s < sizes.states) × ((l : Go) → Mem l (nth_state (table_in table.now) s).gos → Led (table_in table.now) s l) × MarksTell (table_in table.now) s marks.now }
-    ensures { Tells result ((i : Item) → InState (table_in table.now) s i → Onward (table_in table.now) s i) }
-{
-    let n = item_count(table, state_at, sizes, s);
-    let mut at = first_item(table, state_at, sizes, s);
-    let mut k = 0;
-    while k < n {
-        if !moves_on(table, rule_at, state_at, sizes, marks, s, at) {
-            return false;
-        }
-        at = next_item(table, at);
-        k += 1;
-    }
-    true
+    usize::from(marks[core(rule, dot)])
 }
 
 // Whether a state keeps condition 5; its items' places are noted, and it sets its marks.
-fn keeps_5(
-    table: &[u16],
-    rule_at: &[u16; Shape::MAX_RULES],
-    state_at: &[u16; Shape::MAX_STATES],
-    sizes: Sizes,
-    sets: &[u64],
-    s: usize,
-    spots: &mut [u16; CORES],
-    marks: &mut [u8; CORES],
-) -> bool
-    requires { Held table.now rule_at.now sizes × StatesHeld table.now state_at.now sizes × KeptBefore (table_in table.now) 5 × (s < sizes.states) × AllNoted table.now state_at.now sizes sets.now × Spots table.now state_at.now s 0 spots.old × MarksTo s marks.old }
-    ensures tells { Tells result (Condition5 (table_in table.now) s) }
-    ensures spots { result ≡ true → Spots table.now state_at.now s (length (nth_state (table_in table.now) s).items) spots.new × MarksTo (suc s) marks.new }
+fn keeps_5(t: &Noted, s: usize, spots: &mut [u16; CORES], marks: &mut [u8; CORES]) -> bool
+    requires before { KeptBefore (table_of t.now) 5 }
+    requires here { s < t.now.table.now.sizes.states }
+    requires spots { Spots t.now.table.now.numbers.now t.now.table.now.state_at.now s 0 spots.old }
+    requires marks { MarksTo s marks.old }
+    ensures tells { Tells result (Condition5 (table_of t.now) s) }
+    ensures spots { result ≡ true → AllSpots t.now.table.now s spots.new }
+    ensures marks { result ≡ true → MarksTo (suc s) marks.new }
 {
-    note_items(table, state_at, sizes, s, spots);
-    if !all_led(table, rule_at, state_at, sizes, sets, spots, s, marks) {
-        return false;
-    }
-    all_move(table, rule_at, state_at, sizes, marks, s)
+    note_items(t.table, s, spots);
+    let source = Source { noted: t, s, spots };
+    source.all_led(marks) && source.all_move(marks)
 }
 
-// The lowest state that breaks condition 5; the count of states if none does.
-pub(crate) fn breaks_5(
-    table: &[u16],
-    rule_at: &[u16; Shape::MAX_RULES],
-    state_at: &[u16; Shape::MAX_STATES],
-    sizes: Sizes,
-    sets: &[u64],
-) -> usize
-    requires { Held table.now rule_at.now sizes × StatesHeld table.now state_at.now sizes × KeptBefore (table_in table.now) 5 × AllNoted table.now state_at.now sizes sets.now }
-    ensures { LowestBreaker (table_in table.now) 5 result }
+// The lowest state that breaks condition 5, if one does.
+pub(crate) fn breaks_5(t: &Noted) -> Option<usize>
+    requires { KeptBefore (table_in t.now.table.now.numbers.now) 5 }
+    ensures { LowestBreaker (table_in t.now.table.now.numbers.now) 5 result }
 {
     let mut spots = [0u16; CORES];
     let mut marks = [0u8; CORES];
-    let mut s = 0;
-    while s < sizes.states {
-        if !keeps_5(
-            table, rule_at, state_at, sizes, sets, s, &mut spots, &mut marks,
-        ) {
-            return s;
+    for s in 0..t.table.sizes.states {
+        if !keeps_5(t, s, &mut spots, &mut marks) {
+            return Some(s);
         }
-        s += 1;
     }
-    s
+    None
 }

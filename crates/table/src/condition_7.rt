@@ -3,99 +3,61 @@ ghost use Rattle.std.specs.Prelude.{◌<◌};
 ghost use Rattle.theory.specs.Table.{Condition7, Complete, state_at as nth_state};
 ghost use Rattle.table.specs.Conditions.{LowestBreaker};
 ghost use Rattle.table.specs.Conditions.Parts.{NoShift};
-ghost use Rattle.table.specs.Items.{item_in, ItemHeld, StatesHeld};
-ghost use Rattle.table.specs.Aheads.{AllNoted};
-ghost use Rattle.table.specs.Places.{Held, table_in, grammar_in};
+ghost use Rattle.table.specs.Items.{item_in, ItemHeld};
+ghost use Rattle.table.specs.Places.{table_in, grammar_in};
 ghost use Rattle.table.specs.Tests.Tell.{Tells};
 
-use crate::Sizes;
-use crate::aheads::set_at;
-use crate::items::{after_dot, first_go, first_item, go_count, go_on, item_count, next_item};
+use crate::aheads::Noted;
+use crate::places::Table;
 use crate::sets::has;
-use lines::Shape;
 
 // Whether the item at a place is complete.
-fn is_complete(table: &[u16], rule_at: &[u16; Shape::MAX_RULES], sizes: Sizes, at: usize) -> bool
-    requires { Held table.now rule_at.now sizes × ItemHeld table.now at }
-    ensures { Tells result (Complete (grammar_in table.now) (item_in table.now at)) }
+fn is_complete(t: &Table, at: usize) -> bool
+    requires { ItemHeld t.now.numbers.now at }
+    ensures { Tells result (Complete (grammar_in t.now.numbers.now) (item_in t.now.numbers.now at)) }
 {
-    after_dot(table, rule_at, sizes, at) == sizes.terms
+    t.after_dot(at) == t.sizes.terms
 }
 
 // Whether no go line of a state is on a kind in the set.
-fn no_shift(
-    table: &[u16],
-    state_at: &[u16; Shape::MAX_STATES],
-    sizes: Sizes,
-    s: usize,
-    set: u64,
-) -> bool
-    requires { StatesHeld table.now state_at.now sizes × (s < sizes.states) }
-    ensures { Tells result (NoShift sizes.terms (nth_state (table_in table.now) s).gos set) }
+fn no_shift(t: &Table, s: usize, set: u64) -> bool
+    requires { s < t.now.sizes.states }
+    ensures { Tells result (NoShift t.now.sizes.terms (nth_state (table_in t.now.numbers.now) s).gos set) }
 {
-    let n = go_count(table, state_at, sizes, s);
-    let mut at = first_go(table, state_at, sizes, s);
-    let mut k = 0;
-    while k < n {
-        let x = go_on(table, at);
-        if x < sizes.terms {
-            if has(set, x) {
-                return false;
-            }
+    let mut at = t.first_go(s);
+    for _ in 0..t.go_count(s) {
+        let x = t.go_on(at);
+        if x < t.sizes.terms && has(set, x) {
+            return false;
         }
         at += 3;
-        k += 1;
     }
     true
 }
 
 // Whether a state keeps condition 7.
-fn keeps_7(
-    table: &[u16],
-    rule_at: &[u16; Shape::MAX_RULES],
-    state_at: &[u16; Shape::MAX_STATES],
-    sizes: Sizes,
-    sets: &[u64],
-    s: usize,
-) -> bool
-    requires { Held table.now rule_at.now sizes × StatesHeld table.now state_at.now sizes × (s < sizes.states) × AllNoted table.now state_at.now sizes sets.now }
-    ensures { Tells result (Condition7 (table_in table.now) s) }
+fn keeps_7(t: &Noted, s: usize) -> bool
+    requires { s < t.now.table.now.sizes.states }
+    ensures { Tells result (Condition7 (table_in t.now.table.now.numbers.now) s) }
 {
-    let n = item_count(table, state_at, sizes, s);
-    let mut at = first_item(table, state_at, sizes, s);
+    let mut at = t.table.first_item(s);
     let mut set: u64 = 0;
-    let mut k = 0;
-    while k < n {
-        if is_complete(table, rule_at, sizes, at) {
-            let ahead = set_at(table, sets, at);
+    for _ in 0..t.table.item_count(s) {
+        if is_complete(t.table, at) {
+            let ahead = t.set_at(at);
             if set & ahead != 0 {
                 return false;
             }
             set |= ahead;
         }
-        at = next_item(table, at);
-        k += 1;
+        at = t.table.next_item(at);
     }
-    no_shift(table, state_at, sizes, s, set)
+    no_shift(t.table, s, set)
 }
 
-// The lowest state that breaks condition 7; the count of states if none does.
-pub(crate) fn breaks_7(
-    table: &[u16],
-    rule_at: &[u16; Shape::MAX_RULES],
-    state_at: &[u16; Shape::MAX_STATES],
-    sizes: Sizes,
-    sets: &[u64],
-) -> usize
-    requires { Held table.now rule_at.now sizes × StatesHeld table.now state_at.now sizes × AllNoted table.now state_at.now sizes sets.now }
-    ensures { LowestBreaker (table_in table.now) 7 result }
+// The lowest state that breaks condition 7, if one does.
+pub(crate) fn breaks_7(t: &Noted) -> Option<usize>
+    ensures { LowestBreaker (table_in t.now.table.now.numbers.now) 7 result }
 {
-    let mut s = 0;
-    while s < sizes.states {
-        if !keeps_7(table, rule_at, state_at, sizes, sets, s) {
-            return s;
-        }
-        s += 1;
-    }
-    s
+    (0..t.table.sizes.states).find(|s| !keeps_7(t, *s))
 }

@@ -2,11 +2,10 @@
 ghost use Rattle.std.specs.Prelude.{◌≡◌, ◌+◌, ◌<◌, ◌≤◌};
 ghost use Rattle.theory.specs.Grammar.{Reduced};
 ghost use Rattle.lines.specs.Limits.{max_terms, max_nonterms};
-ghost use Rattle.table.specs.Places.{Held, grammar_in};
+ghost use Rattle.table.specs.Places.{grammar_in};
 ghost use Rattle.table.specs.Firsts.{first_set, FirstPart, FirstGrown, Firsts};
 
-use crate::Sizes;
-use crate::places::{left_of, right_symbol};
+use crate::places::Table;
 use crate::sets::single;
 use lines::Shape;
 
@@ -22,20 +21,14 @@ pub(crate) fn begins(terms: usize, rows: &[u64; Shape::MAX_NONTERMS], x: usize) 
 }
 
 // The row of a rule's left side takes in what can begin its right side; answers whether it grew.
-fn first_by(
-    table: &[u16],
-    rule_at: &[u16; Shape::MAX_RULES],
-    sizes: Sizes,
-    rows: &mut [u64; Shape::MAX_NONTERMS],
-    r: usize,
-) -> bool
-    requires { Held table.now rule_at.now sizes × (r < sizes.rules) × Reduced (grammar_in table.now) × FirstPart (grammar_in table.now) rows.old }
-    ensures { FirstGrown (grammar_in table.now) (λ q. q ≡ r) rows.old rows.new result }
+fn first_by(t: &Table, rows: &mut [u64; Shape::MAX_NONTERMS], r: usize) -> bool
+    requires { (r < t.now.sizes.rules) × Reduced (grammar_in t.now.numbers.now) × FirstPart (grammar_in t.now.numbers.now) rows.old }
+    ensures { FirstGrown (grammar_in t.now.numbers.now) (λ q. q ≡ r) rows.old rows.new result }
 {
-    let k = left_of(table, rule_at, sizes, r) - sizes.terms - 1;
-    let x = right_symbol(table, rule_at, sizes, r, 0);
+    let k = t.left_of(r) - t.sizes.terms - 1;
+    let x = t.right_symbol(r, 0);
     let old = rows[k];
-    let new = old | begins(sizes.terms, rows, x);
+    let new = old | begins(t.sizes.terms, rows, x);
     if new == old {
         return false;
     }
@@ -44,39 +37,29 @@ fn first_by(
 }
 
 // All rules, one after the other; answers whether a row grew.
-fn first_round(
-    table: &[u16],
-    rule_at: &[u16; Shape::MAX_RULES],
-    sizes: Sizes,
-    rows: &mut [u64; Shape::MAX_NONTERMS],
-) -> bool
-    requires { Held table.now rule_at.now sizes × Reduced (grammar_in table.now) × FirstPart (grammar_in table.now) rows.old }
-    ensures { FirstGrown (grammar_in table.now) (λ q. q < sizes.rules) rows.old rows.new result }
+fn first_round(t: &Table, rows: &mut [u64; Shape::MAX_NONTERMS]) -> bool
+    requires { Reduced (grammar_in t.now.numbers.now) × FirstPart (grammar_in t.now.numbers.now) rows.old }
+    ensures { FirstGrown (grammar_in t.now.numbers.now) (λ q. q < t.now.sizes.rules) rows.old rows.new result }
 {
     let mut grew = false;
-    let mut r = 0;
-    while r < sizes.rules {
-        if first_by(table, rule_at, sizes, rows, r) {
+    for r in 0..t.sizes.rules {
+        if first_by(t, rows, r) {
             grew = true;
         }
-        r += 1;
     }
     grew
 }
 
 // The first sets: the k-th row has exactly the kinds that can begin the k-th nonterminal.
-pub(crate) fn firsts(
-    table: &[u16],
-    rule_at: &[u16; Shape::MAX_RULES],
-    sizes: Sizes,
-) -> [u64; Shape::MAX_NONTERMS]
-    requires { Held table.now rule_at.now sizes × Reduced (grammar_in table.now) }
-    ensures { Firsts (grammar_in table.now) result }
+// A `while`: it goes on until a round changes nothing.
+pub(crate) fn firsts(t: &Table) -> [u64; Shape::MAX_NONTERMS]
+    requires { Reduced (grammar_in t.now.numbers.now) }
+    ensures { Firsts (grammar_in t.now.numbers.now) result }
 {
     let mut rows = [0u64; Shape::MAX_NONTERMS];
     let mut grew = true;
     while grew {
-        grew = first_round(table, rule_at, sizes, &mut rows);
+        grew = first_round(t, &mut rows);
     }
     rows
 }

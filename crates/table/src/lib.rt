@@ -1,13 +1,14 @@
 // The table check: whether a table of numbers passes.
 #![tactic(auto)]
 
-ghost use Rattle.std.specs.Prelude.{◌*◌, ◌≤◌, length};
+ghost use Rattle.std.specs.Prelude.{◌≡◌, ◌*◌, ◌≤◌, length};
 ghost use Rattle.lines.specs.Limits.{max_numbers};
 ghost use Rattle.table.specs.Check.{Checks};
 
-use aheads::SPREAD;
+use aheads::{Noted, SPREAD};
+use conditions::verdict;
 use lines::Shape;
-use verdict::from_reduced;
+use places::Table;
 use walk::read_lines;
 
 mod sets; // sets.rt: sets of numbers below 64, one number each
@@ -29,7 +30,7 @@ mod condition_5; // condition_5.rt: go lines move the dots on
 mod condition_6; // condition_6.rt: every state is led to
 mod condition_7; // condition_7.rt: at most one action on a token
 mod entries; // entries.rt: the look-ups of a table, built once
-mod verdict; // verdict.rt: the grammar first, then the conditions, in document 01's order
+mod conditions; // conditions.rt: the grammar first, then the conditions, in document 01's order
 
 pub use entries::{ACTS, GOES, SYMBOLS, look_ups};
 
@@ -42,8 +43,9 @@ pub(crate) struct Sizes {
     pub states: usize,
 }
 
-// A notion of a grammar's nonterminals: it derives some string of tokens, it stands in some string derived from the start, or it comes to a
-// symbol through rules whose right side is one symbol.
+// A notion of a grammar's nonterminals: it derives some string of tokens, it stands in some string derived from the
+// start, or it comes to a symbol through rules whose right side is one symbol.
+// An enum and no closure for each step: what the steps promise (`Means`, `Part`, `Grows`) goes by its cases.
 #[derive(Clone, Copy)]
 pub(crate) enum Notion {
     Productive,
@@ -51,19 +53,11 @@ pub(crate) enum Notion {
     ComesTo(usize),
 }
 
-// What a search found: a number, or none.
-#[derive(Clone, Copy)]
-pub(crate) enum Found {
-    At(usize),
-    Nothing,
-}
-
-// What reading a table's lines answers: too many numbers, the line that does not fit, or the sizes of the table.
-#[derive(Clone, Copy)]
-pub(crate) enum Read {
+// Why a table's lines are not read: too many numbers, or the line that does not fit.
+#[derive(Clone, Copy, Debug, PartialEq, Eq)]
+pub(crate) enum Unread {
     TooLong,
     Unfit(usize),
-    Fits(Sizes),
 }
 
 // Why a table does not pass. A line, a nonterminal or a state is told by its number.
@@ -79,6 +73,20 @@ pub enum Fault {
     Ring(usize),
     // The first condition that is broken, from 1, and the lowest state that breaks it.
     Broken(usize, usize),
+}
+
+// A fault of the lines is the check's.
+impl From<Unread> for Fault {
+    ghost use Rattle.table.specs.Lined.{fault_of};
+
+    ghost from_gives = { λ unread fault. fault ≡ fault_of unread };
+
+    fn from(unread: Unread) -> Fault {
+        match unread {
+            Unread::TooLong => Fault::TooLong,
+            Unread::Unfit(line) => Fault::Unfit(line),
+        }
+    }
 }
 
 // Places for the look-ahead sets of a table of at most 512 numbers.
@@ -103,12 +111,26 @@ fn check_in(table: &[u16], sets: &mut [u64]) -> Result<usize, Fault>
 {
     let mut rule_at = [0u16; Shape::MAX_RULES];
     let mut state_at = [0u16; Shape::MAX_STATES];
-    let read = read_lines(table, &mut rule_at, &mut state_at, sets);
-    match read {
-        Read::TooLong => Err(Fault::TooLong),
-        Read::Unfit(line) => Err(Fault::Unfit(line)),
-        Read::Fits(sizes) => from_reduced(table, &rule_at, &state_at, sizes, sets),
-    }
+    let sizes = read_lines(table, &mut rule_at, &mut state_at, sets)?;
+    let table = Table {
+        numbers: table,
+        rule_at: &rule_at,
+        state_at: &state_at,
+        sizes,
+    };
+    verdict(&Noted {
+        table: &table,
+        sets,
+    })
+}
+
+// The same in a room of so many sets.
+fn check_sized<const N: usize>(table: &[u16]) -> Result<usize, Fault>
+    requires { (N ≤ max_numbers) × (length table.now ≤ max_numbers → length table.now ≤ 4 * N) }
+    ensures { Checks table.now result }
+{
+    let mut sets = [0u64; N];
+    check_in(table, &mut sets)
 }
 
 // Checks a table of numbers. A small table is checked in a small room.
@@ -117,21 +139,16 @@ pub fn check_table(table: &[u16]) -> Result<usize, Fault>
 {
     let n = table.len();
     if n <= SPREAD * FEW {
-        let mut sets = [0u64; FEW];
-        return check_in(table, &mut sets);
+        return check_sized::<FEW>(table);
     }
     if n <= SPREAD * SOME {
-        let mut sets = [0u64; SOME];
-        return check_in(table, &mut sets);
+        return check_sized::<SOME>(table);
     }
     if n <= SPREAD * MORE {
-        let mut sets = [0u64; MORE];
-        return check_in(table, &mut sets);
+        return check_sized::<MORE>(table);
     }
     if n <= SPREAD * MANY {
-        let mut sets = [0u64; MANY];
-        return check_in(table, &mut sets);
+        return check_sized::<MANY>(table);
     }
-    let mut sets = [0u64; MOST];
-    check_in(table, &mut sets)
+    check_sized::<MOST>(table)
 }

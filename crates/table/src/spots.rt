@@ -1,16 +1,13 @@
-// Where the items of a state stand, by rule and dot. The states are walked over in their order, and each item's place is noted; what stands below
-// the place of the state's first item was noted for an earlier state, or is 0.
+// Where the items of a state stand, by rule and dot. The states are walked over in their order, and each item's place
+// is noted; what stands below the place of the state's first item was noted for an earlier state, or is 0.
 ghost use Rattle.std.specs.Prelude.{◌≡◌, true, ◌<◌, ◌≤◌, length, get_or, set};
 ghost use Rattle.theory.specs.Table.{state_at as nth_state, Condition2};
 ghost use Rattle.lines.specs.Limits.{max_numbers};
-ghost use Rattle.table.specs.Items.{StatesHeld};
 ghost use Rattle.table.specs.Places.{table_in};
 ghost use Rattle.table.specs.Spots.{cores, core_of, CoreIn, Spots};
 ghost use Rattle.table.specs.Tests.Tell.{Tells};
 
-use crate::Sizes;
-use crate::items::{first_item, item_count, item_dot, item_rule, next_item};
-use crate::places::wide;
+use crate::places::Table;
 use lines::Shape;
 
 // How many pairs of a rule, the accept rule too, and a dot there can be.
@@ -29,7 +26,7 @@ pub(crate) fn spot_of(spots: &[u16; CORES], rule: usize, dot: usize) -> usize
     requires { CoreIn rule dot }
     ensures { result ≡ get_or spots.now (core_of rule dot) 0 }
 {
-    wide(spots[core(rule, dot)])
+    usize::from(spots[core(rule, dot)])
 }
 
 // Notes the place of an item with a rule and a dot.
@@ -42,30 +39,21 @@ fn note_spot(spots: &mut [u16; CORES], rule: usize, dot: usize, at: usize)
 }
 
 // Notes the places of a state's items, and tells whether no two of these agree in rule and dot. It stops where two do.
-pub(crate) fn note_items(
-    table: &[u16],
-    state_at: &[u16; Shape::MAX_STATES],
-    sizes: Sizes,
-    s: usize,
-    spots: &mut [u16; CORES],
-) -> bool
-    requires { StatesHeld table.now state_at.now sizes × (s < sizes.states) × Spots table.now state_at.now s 0 spots.old }
-    ensures tells { Tells result (Condition2 (table_in table.now) s) }
-    ensures spots { result ≡ true → Spots table.now state_at.now s (length (nth_state (table_in table.now) s).items) spots.new }
+pub(crate) fn note_items(t: &Table, s: usize, spots: &mut [u16; CORES]) -> bool
+    requires { (s < t.now.sizes.states) × Spots t.now.numbers.now t.now.state_at.now s 0 spots.old }
+    ensures tells { Tells result (Condition2 (table_in t.now.numbers.now) s) }
+    ensures spots { result ≡ true → Spots t.now.numbers.now t.now.state_at.now s (length (nth_state (table_in t.now.numbers.now) s).items) spots.new }
 {
-    let n = item_count(table, state_at, sizes, s);
-    let first = first_item(table, state_at, sizes, s);
+    let first = t.first_item(s);
     let mut at = first;
-    let mut k = 0;
-    while k < n {
-        let rule = item_rule(table, at);
-        let dot = item_dot(table, at);
+    for _ in 0..t.item_count(s) {
+        let rule = t.item_rule(at);
+        let dot = t.item_dot(at);
         if first <= spot_of(spots, rule, dot) {
             return false;
         }
         note_spot(spots, rule, dot, at);
-        at = next_item(table, at);
-        k += 1;
+        at = t.next_item(at);
     }
     true
 }

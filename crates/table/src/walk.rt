@@ -1,33 +1,30 @@
 // The lines of a table read one after the other, and the places of its rules and states noted.
-ghost use Rattle.std.specs.Prelude.{◌≡◌, length};
-ghost use Rattle.lines.specs.Limits.{max_rules, max_states};
+ghost use Rattle.std.specs.Prelude.{◌≡◌};
 ghost use Rattle.table.specs.Aheads.{SetsRead};
-ghost use Rattle.table.specs.Lined.{rules_with, Notable, Reads, sizes_of};
+ghost use Rattle.table.specs.Lined.{rules_with, Notable, Reads};
 
-use crate::places::number;
-use crate::states::read_states;
-use crate::{Read, Sizes};
-use lines::{Accepted, Due, Shape, accept};
+use crate::states::{Body, Reached, line_at};
+use crate::{Sizes, Unread};
+use lines::{Due, Shape};
 
 // A rule line's place is noted.
+#[tactic(auto, unfolding(crate::specs::Lined::rules_with))]
 fn note_rule(s: Shape, at: usize, rule_at: &mut [u16; Shape::MAX_RULES])
     requires { Notable s at }
     ensures { rule_at.new ≡ rules_with s rule_at.old at }
 {
-    let due = s.due;
-    if let Due::Rule = due {
-        let r = s.rules;
-        rule_at[r] = at as u16;
+    if let Due::Rule = s.due {
+        rule_at[s.rules] = at as u16;
     }
 }
 
-// The same shape, made of its fields: a shape copied whole would take along the bytes between its fields, which is slow.
+// The same shape, made of its fields: a shape copied whole would take along the bytes between its fields, which is
+// slow.
 fn renewed(s: Shape) -> Shape
     ensures { result ≡ s }
 {
-    let due = s.due;
     Shape {
-        due: due,
+        due: s.due,
         terms: s.terms,
         nonterms: s.nonterms,
         rules: s.rules,
@@ -41,54 +38,55 @@ fn renewed(s: Shape) -> Shape
 }
 
 // The sizes that a shape says.
-fn sizes_of(s: Shape) -> Sizes
-    ensures { result ≡ sizes_of s }
-{
-    Sizes {
-        terms: s.terms,
-        nonterms: s.nonterms,
-        rules: s.rules,
-        states: s.states,
+impl From<Shape> for Sizes {
+    ghost use Rattle.table.specs.Lined.{sizes_of};
+
+    ghost from_gives = { λ s z. z ≡ sizes_of s };
+
+    fn from(s: Shape) -> Sizes {
+        Sizes {
+            terms: s.terms,
+            nonterms: s.nonterms,
+            rules: s.rules,
+            states: s.states,
+        }
     }
 }
 
-// All lines of a table: those before the states one by one, then those of the states. If there is room for all look-ahead sets, they are noted.
+// All lines of a table: those before the states one by one, then those of the states. If there is room for all
+// look-ahead sets, they are noted.
 pub(crate) fn read_lines(
     table: &[u16],
     rule_at: &mut [u16; Shape::MAX_RULES],
     state_at: &mut [u16; Shape::MAX_STATES],
     sets: &mut [u64],
-) -> Read
-    requires { (length rule_at.old ≡ max_rules) × (length state_at.old ≡ max_states) }
+) -> Result<Sizes, Unread>
     ensures reads { Reads table.now rule_at.new state_at.new result }
     ensures sets_read { SetsRead table.now state_at.new sets.new result }
 {
     if Shape::MAX_NUMBERS < table.len() {
-        return Read::TooLong;
+        return Err(Unread::TooLong);
     }
     let mut lengths = [0u8; Shape::MAX_RULES];
     let mut s = Shape::start();
     let mut at = 0;
     let mut line = 0;
-    while at < table.len() {
-        let due = s.due;
-        if let Due::State = due {
-            return read_states(table, sizes_of(s), &lengths, at, line, state_at, sets);
+    while let Some(numbers) = line_at(table, at) {
+        if let Due::State = s.due {
+            let body = Body {
+                numbers: table,
+                sizes: Sizes::from(s),
+                lengths: &lengths,
+            };
+            return body.read_states(Reached { at, line }, state_at, sets);
         }
-        let from = at + 1;
-        let n = number(table, at);
-        if table.len() - from < n {
-            return Read::Unfit(line);
-        }
-        let to = from + n;
-        let accepted = accept(s, &mut lengths, &table[from..to]);
-        let Accepted::Next(next) = accepted else {
-            return Read::Unfit(line);
+        let Some(next) = s.accept(&mut lengths, numbers) else {
+            return Err(Unread::Unfit(line));
         };
         note_rule(s, at, rule_at);
         s = renewed(next);
-        at = to;
+        at += 1 + numbers.len();
         line += 1;
     }
-    Read::Unfit(line)
+    Err(Unread::Unfit(line))
 }

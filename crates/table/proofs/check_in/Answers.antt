@@ -1,37 +1,21 @@
 -- `check_in` tells what the numbers' answer is: the lines first, then the table. There is room for the sets, since a table that fits has not too many
 -- numbers.
 use native.Mathlib.Omega.{arith}
-use mathlib.Core.Path.{subst}
-use Rattle.table.specs.Aheads.{SetsRead}
-use Rattle.table.specs.Items.Held.{states-held}
-use Rattle.table.specs.Lined.{Reads}
-use Rattle.table.proofs.Answered.{over-check, unfit-check, fine_lines, answers_check}
-use Rattle.table.proofs.SetsNoted.{numbers_in}
+use Rattle.std.proofs.lemmas.Result.{err_from_is_err_and}
+use Rattle.table.proofs.Answered.{fine_lines, answers_check, refused_check}
+use Rattle.table.proofs.SetsNoted.{numbers_in, all_told}
 use Rattle.table.proofs.check_in.Goals as goal
 
-pub from_reduced-requires : goal.from_reduced-requires
-from_reduced-requires c =
-    let ns = c.args.table.now in
-    let lines = c.read_lines-read in
-    let fits = c.in-Fits.is in
-    let f = subst (Reads ns _ _) fits lines.ensures.reads in
-    let sets = subst (SetsRead ns _ _) fits lines.ensures.sets_read in
-    let room = c.requires (numbers_in ns f.held.in_range) in
-    let same = lines.auto.sets in
-    (f.held, states-held f.held f.states_at, sets (omega arith))
+pub returns-in_err-sizes : goal.returns-in_err-sizes
+returns-in_err-sizes c = let p = err_from_is_err_and c.from_residual.result c.from_residual.ensures.1 in
+    rw (p.1, p.2) (refused_check c.args.table.now _ c.in_err-sizes.ensures.reads)
 
-pub returns-in-TooLong : goal.returns-in-TooLong
-returns-in-TooLong c =
-    let ns = c.args.table.now in
-    over-check ns (subst (Reads ns _ _) c.in-TooLong.is c.read_lines-read.ensures.reads)
+pub invariant_of-verdict : goal.invariant_of-verdict
+invariant_of-verdict c = let f = c.in_ok-sizes.ensures in
+    let few = numbers_in _ f.reads.held.in_range in
+    let r = c.requires few in
+    let l = c.read_lines.auto.sets in
+    record { all_told = all_told _ c.in_ok-sizes.sizes (f.sets_read (omega arith)) }
 
-pub returns-in-Unfit : goal.returns-in-Unfit
-returns-in-Unfit c =
-    let ns = c.args.table.now in
-    unfit-check ns _ (subst (Reads ns _ _) c.in-Unfit.is c.read_lines-read.ensures.reads)
-
-pub returns-in-Fits : goal.returns-in-Fits
-returns-in-Fits c =
-    let ns = c.args.table.now in
-    let f = subst (Reads ns _ _) c.in-Fits.is c.read_lines-read.ensures.reads in
-    answers_check (fine_lines f) c.from_reduced.ensures
+pub returns : goal.returns
+returns c = answers_check (fine_lines c.in_ok-sizes.ensures.reads) c.verdict.ensures

@@ -1,5 +1,5 @@
 -- The conditions one after the other: those before the k-th are kept, and the k-th is kept by all states or broken first by the lowest of them.
-use Rattle.std.specs.Prelude.{ℕ, zero, suc, ◌≤◌, ◌<◌, ◌≡◌}
+use Rattle.std.specs.Prelude.{ℕ, zero, suc, ◌<◌, ◌≡◌, None, Some}
 use Rattle.std.proofs.Common.{arith, sym, subst}
 use Rattle.std.proofs.Math.Decide.{ℕ_discrete}
 use Rattle.theory.specs.Table.{Table, count}
@@ -19,11 +19,10 @@ kept_more {t} k h here l s m n = go (ℕ_discrete l k)
     go (yes e) = subst (λ j. Keeps t j s) (sym e) (here s n)
     go (no e) = h l s (omega arith) n
 
-module _ {t : Table} (k : ℕ) {states r : ℕ} (e : states ≡ count t) (h : KeptBefore t k) (b : LowestBreaker t k r) where
-  -- no state breaks the k-th
-  pub kept_next : states ≤ r → KeptBefore t (suc k)
-  kept_next l = kept_more k h (b.kept (let i = b.inside in omega arith))
+-- no state breaks the k-th
+pub kept_next : {t : Table} (k : ℕ) → KeptBefore t k → LowestBreaker t k None → KeptBefore t (suc k)
+kept_next k h b = kept_more k h b
 
-  -- a state breaks the k-th
-  pub first_broken_law : r < states → FirstBroken t k r
-  first_broken_law l = record { state = b.breaks (omega arith); before = h }
+-- a state breaks the k-th
+pub first_broken_law : {t : Table} (k : ℕ) {r : ℕ} → KeptBefore t k → LowestBreaker t k (Some r) → FirstBroken t k r
+first_broken_law k h b = record { state = b; before = h }

@@ -1,14 +1,23 @@
 -- What the tests of a state's parts tell, for conditions 1, 3, 6 and 7.
-use Rattle.std.specs.Prelude.{ℕ, suc, ◌+◌, ◌-◌, ◌≤◌, ◌<◌, ◌^◌, ◌≡◌, Bool, true, false, ◌⊎◌, List, [], ◌∷◌, length, get_or, leb}
+use Rattle.std.specs.Prelude.{ℕ, suc, ◌+◌, ◌-◌, ◌≤◌, ◌<◌, ◌^◌, ◌≡◌, Bool, true, false, ◌⊎◌, leb}
+use Rattle.std.specs.Prelude.{List, [], ◌∷◌, length, get_or, MatchBool}
 use mathlib.Core.List.{Memᴰ as Mem}
 use Rattle.std.specs.Int.Bits.{bit_or}
 use Rattle.theory.specs.Grammar.{Grammar}
 use Rattle.theory.specs.Table.{Item, Go, Table, state_at, rule_at, InState, After}
 use Rattle.lines.specs.Limits.{max_states}
+use Rattle.table.specs.Aheads.{place_of}
+use Rattle.table.specs.Places.{table_in}
 use Rattle.table.specs.Sets.{In}
 use Rattle.table.specs.Tests.Tell.{Tells}
 
 -- ---- condition 1
+
+-- a test of a state's items by their places: one passes, or each fails
+abbrev pub SomePasses : List ℕ → List ℕ → ℕ → (ℕ → Bool → Type 0) → Bool → Type 0
+SomePasses ns places s gives found = MatchBool found
+    ((k : ℕ) × (k < length (state_at (table_in ns) s).items) × gives (place_of ns places s k) true)
+    ((k : ℕ) → k < length (state_at (table_in ns) s).items → gives (place_of ns places s k) false)
 
 -- some item of the state has a dot above 0
 abbrev pub SomeMoved : Table → ℕ → Type 0

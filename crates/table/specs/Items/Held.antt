@@ -7,7 +7,7 @@ use Rattle.table.specs.declared.Sizes.{Sizes}
 use Rattle.table.specs.Members.{mem_at}
 use Rattle.table.specs.Places.{ItemAt, GoAt, StateAt, StatesAt, Held, item_place, after_item, gos_place, no_item, no_go, table_in, grammar_in}
 use Rattle.table.specs.Places.Step.{item_first, item_after}
-use Rattle.table.specs.Items.{item_in, ItemHere, GoHere, StatesHeld, AtItem, AtGo}
+use Rattle.table.specs.Items.{item_in, ItemHeld, ItemHere, GoHere, StatesHeld, AtItem, AtGo}
 
 -- the item whose line stands at a place is the one that is read there
 pub item_same : {ns : List ℕ} {p : ℕ} {i : Item} → ItemAt ns p i → item_in ns p ≡ i
@@ -87,6 +87,11 @@ module _ {ns places : List ℕ} {z : Sizes} (H : StatesHeld ns places z) (s : �
   -- what a walk over the go lines has come to
   pub go_walk_here : {n k at : ℕ} → AtGo ns places s n k at → k < n → GoHere ns at (get_or (state_at (table_in ns) s).gos k no_go)
   go_walk_here {n} {k} {at} w g = let e = w.counted in go_here_law k (omega arith) at w.stands
+
+-- the line of the item that a walk has come to
+pub walk_held : {ns places : List ℕ} {z : Sizes} {s n k at : ℕ} → StatesHeld ns places z → s < z.states →
+    AtItem ns places s n k at → k < n → ItemHeld ns at
+walk_held {s = s} H l w g = (walk_here H s l w g).held
 
 -- from an item to the next, as a loop goes
 pub item_on : {ns : List ℕ} (p : ℕ) (is : List Item) (k : ℕ) → k < length is → {at next : ℕ} → at ≡ item_place p is k →

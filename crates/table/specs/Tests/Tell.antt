@@ -1,5 +1,5 @@
 -- What each test tells: it passes exactly if a statement holds.
-use Rattle.std.specs.Prelude.{ℕ, ◌≤◌, ◌≡◌, Bool, true, false, not, ◌⊎◌, eqb, leb}
+use Rattle.std.specs.Prelude.{ℕ, ◌≤◌, ◌≡◌, Bool, true, false, not, ◌⊎◌, eqb, leb, MatchBool}
 use Rattle.std.proofs.Math.Path.{refl, subst}
 use Rattle.std.proofs.Common.{sym, ap, ◌∙◌, inl, inr, ⊎_elim, leb→le, le→leb}
 use Rattle.std.proofs.lemmas.Bool.{false≢true}
@@ -17,6 +17,10 @@ use Rattle.table.specs.Tests.{all, any, places, subset, first_is, only_is}
 pub record Tells (b : Bool) (P : Type 0) : Type 0 where
   pub holds : b ≡ true → P
   pub shows : P → b ≡ true
+
+-- where the test passes the statement holds
+pub told : {b : Bool} {P : Type 0} → Tells b P → b ≡ true → P
+told t = t.holds
 
 -- where the test fails the statement does not hold
 pub refutes : {b : Bool} {P : Type 0} → Tells b P → b ≡ false → P → ⊥
@@ -37,6 +41,15 @@ tells_yes p = record { holds = λ e. p; shows = λ q. refl }
 -- what does not hold is told by a test that fails
 pub tells_no : {P : Type 0} → (P → ⊥) → Tells false P
 tells_no n = record { holds = λ e. absurd (false≢true e); shows = λ p. absurd (n p) }
+
+-- a test that finds the one of two statements that exclude each other, and a test that finds the other
+pub tells_found : {P Q : Type 0} (b : Bool) → MatchBool b P Q → (P → Q → ⊥) → Tells b P
+tells_found true p n = tells_yes p
+tells_found false q n = tells_no (λ p. n p q)
+
+pub tells_missed : {P Q : Type 0} (b : Bool) → MatchBool b P Q → (P → Q → ⊥) → Tells (not b) Q
+tells_missed true p n = tells_no (λ q. n p q)
+tells_missed false q n = tells_yes q
 
 -- ---- connectives
 

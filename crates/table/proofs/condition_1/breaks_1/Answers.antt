@@ -1,22 +1,16 @@
-use native.Mathlib.Omega.{arith}
-use borrow.Author.Count.{below_none, below_more}
-use Rattle.table.specs.Conditions.{broken_told, kept_all}
+-- `condition_1::breaks_1` meets its contract: the search finds the lowest state that does not keep the condition.
+use Rattle.std.proofs.Common.{rules, tests}
+use Rattle.std.proofs.lemmas.Iterator.{first_from_Range}
+use Rattle.table.specs.Checks.{Keeps}
+use Rattle.table.specs.Conditions.{found_lowest}
+use Rattle.table.specs.Places.{table_in}
+use Rattle.table.specs.Tests.Tell.{told, refutes}
 use Rattle.table.proofs.condition_1.breaks_1.Goals as goal
 
-pub loop-s-init : goal.loop-s-init
-loop-s-init c = (omega arith, below_none _)
-
-pub returns-then-not-keeps_1 : goal.returns-then-not-keeps_1
-returns-then-not-keeps_1 c = let e = c.requires.states_are in
-    let l = c.loop-s-test.true in
-    broken_told c.loop-s.invariant.1 (omega arith) c.keeps_1.ensures (c.if-not-keeps_1.true)
-
-pub loop-s-preserved : goal.loop-s-preserved
-loop-s-preserved c = let l = c.loop-s-test.true in
-    (omega arith, below_more _ _ c.loop-s.invariant.1 (c.keeps_1.ensures.holds (c.if-not-keeps_1.false)))
-
 pub returns : goal.returns
-returns c = let e = c.requires.states_are in
-    let l = c.loop-s-test.false in
-    let i = c.loop-s.invariant.0 in
-    kept_all c.loop-s.invariant.1 (omega arith)
+returns c =
+    let t = table_in c.args.t.now.numbers.now in
+    found_lowest t 1 _ _ c.args.t.now.states_held.states_are
+    (first_from_Range _ _ _ _ (λ s. Keeps t 1 s → ⊥) (Keeps t 1) c.find.ensures.ran
+    (λ s q call. search (rules, tests, refutes))
+    (λ s q call. (search (rules, tests), search (rules, tests, told))))

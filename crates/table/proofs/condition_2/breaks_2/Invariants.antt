@@ -1,12 +1,10 @@
 -- `condition_2::breaks_2` meets its contract: the loop keeps that the states passed keep the condition.
-use Prim.Native.Nat.{◌≤◌, ◌<◌, ◌-◌}
+use Prim.Native.Nat.{◌<◌}
 use Rattle.table.specs.Conditions.{KeptBelow}
 use Rattle.table.specs.Places.{table_in}
 use Rattle.table.specs.Spots.{Spots}
 use Rattle.table.proofs.condition_2.breaks_2.Given as goal
 
 abbrev pub invariant-loop-s : goal.invariant-loop-s
-invariant-loop-s l = (l.s ≤ l.sizes.states) × KeptBelow (table_in l.table) 2 l.s × (l.s < l.sizes.states → Spots l.table l.state_at l.s 0 l.spots)
-
-abbrev pub decreases-loop-s : goal.decreases-loop-s
-decreases-loop-s l = l.sizes.states - l.s
+invariant-loop-s l = KeptBelow (table_in l.t.numbers.now) 2 l.s
+    × (l.s < l.t.sizes.states → Spots l.t.numbers.now l.t.state_at.now l.s 0 l.spots)

@@ -10,6 +10,7 @@ pub returns-then-x-terms : goal.returns-then-x-terms
 unfolding with_symbol
 returns-then-x-terms c = rw (le-leb _ _ c.if-x-terms.true, with_symbol) refl
 
-pub returns : goal.returns
+pub returns-else-x-terms : goal.returns-else-x-terms
 unfolding with_symbol
-returns c = rw (lt-leb _ _ c.if-x-terms.false, with_symbol) (ap (λ (x : ℕ). bit_or c.args.set x) c.single.ensures)
+returns-else-x-terms c =
+    rw (lt-leb _ _ c.if-x-terms.false, with_symbol) (ap (λ (x : ℕ). bit_or c.args.set x) c.single.ensures)

@@ -1,23 +1,23 @@
-use native.Mathlib.Omega.{arith}
-use borrow.Author.Count.{below_none, below_more}
-use Rattle.table.specs.Conditions.{kept_all, broken_told}
+-- `condition_4::breaks_4` meets its contract: the search finds the lowest state that does not keep the condition.
+use Rattle.std.proofs.Common.{rules, tests}
+use Rattle.std.proofs.lemmas.Iterator.{first_from_Range}
+use Rattle.table.specs.Checks.{Keeps}
+use Rattle.table.specs.Conditions.{found_lowest}
+use Rattle.table.specs.NotedTable.{table_of}
+use Rattle.table.specs.Places.Step.{held_formed}
+use Rattle.table.specs.Tests.Tell.{told, refutes}
+use Rattle.table.proofs.FirstsTold.{reduced_told, firsts_told}
 use Rattle.table.proofs.condition_4.breaks_4.Goals as goal
 
-pub loop-s-init : goal.loop-s-init
-loop-s-init c = (omega arith, below_none _)
-
-pub keeps_4-requires : goal.keeps_4-requires
-keeps_4-requires c = (c.requires.0, c.requires.1, c.requires.2, c.requires.3, c.requires.4, c.loop-s-test.true, c.requires.5)
-
-pub returns-then-not-keeps_4 : goal.returns-then-not-keeps_4
-returns-then-not-keeps_4 c = let e = c.requires.1.states_are in
-    let l = c.loop-s-test.true in
-    broken_told c.loop-s.invariant.1 (omega arith) c.keeps_4.ensures (c.if-not-keeps_4.true)
-
-pub loop-s-preserved : goal.loop-s-preserved
-loop-s-preserved c = let l = c.loop-s-test.true in (omega arith, below_more _ _ c.loop-s.invariant.1 (c.keeps_4.ensures.holds (c.if-not-keeps_4.false)))
+pub invariant_of-sets : goal.invariant_of-sets
+invariant_of-sets c =
+    let W = held_formed c.args.t.now.table.now.rules_held in
+    record { reduced = reduced_told W c.requires.1; told = firsts_told W c.requires.1 c.requires.0 }
 
 pub returns : goal.returns
-returns c = let e = c.requires.1.states_are in
-    let l = c.loop-s-test.false in
-    kept_all c.loop-s.invariant.1 (omega arith)
+returns c =
+    let t = table_of c.args.t.now in
+    found_lowest t 4 _ _ c.args.t.now.table.now.states_held.states_are
+    (first_from_Range _ _ _ _ (λ s. Keeps t 4 s → ⊥) (Keeps t 4) c.find.ensures.ran
+    (λ s q call. search (rules, tests, refutes))
+    (λ s q call. (search (rules, tests), search (rules, tests, told))))

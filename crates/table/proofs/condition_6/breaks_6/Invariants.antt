@@ -1,12 +1,9 @@
--- `condition_6::breaks_6` meets its contract: the loop keeps that the marks are the targets of the states passed, and that those keep the condition.
-use Prim.Native.Nat.{◌≤◌, ◌-◌}
+-- `condition_6::breaks_6` meets its contract: the loop keeps that the marks are the targets of the states passed, and
+-- that those keep the condition.
 use Rattle.table.specs.Conditions.{KeptBelow}
 use Rattle.table.specs.Places.{table_in}
 use Rattle.table.proofs.Led.{Led}
 use Rattle.table.proofs.condition_6.breaks_6.Given as goal
 
 abbrev pub invariant-loop-s : goal.invariant-loop-s
-invariant-loop-s l = (l.s ≤ l.sizes.states) × Led (table_in l.table) l.s l.led × KeptBelow (table_in l.table) 6 l.s
-
-abbrev pub decreases-loop-s : goal.decreases-loop-s
-decreases-loop-s l = l.sizes.states - l.s
+invariant-loop-s l = Led (table_in l.t.numbers.now) l.s l.led × KeptBelow (table_in l.t.numbers.now) 6 l.s

@@ -8,8 +8,10 @@ use Rattle.table.specs.Places.{grammar_in}
 use Rattle.table.proofs.condition_7.is_complete.Goals as goal
 
 pub returns : goal.returns
-returns c = let ns = c.args.table.now in
-    let i = item_in ns c.args.at in
-    let t = c.requires.0.terms_are in
+returns c =
+    let i = item_in c.args.t.now.numbers.now c.args.at in
+    let t = c.args.t.now.rules_held.terms_are in
     let x = c.after_dot.ensures in
-    tells_as (λ e. complete_of (held_formed c.requires.0) i (sym x ∙ (e ∙ t))) (λ h. x ∙ (of_complete (grammar_in ns) i h ∙ sym t)) (tells_eq c.after_dot.result c.args.sizes.terms)
+    tells_as (λ e. complete_of (held_formed c.args.t.now.rules_held) i (sym x ∙ (e ∙ t)))
+    (λ h. x ∙ (of_complete (grammar_in c.args.t.now.numbers.now) i h ∙ sym t))
+    (tells_eq c.after_dot.result c.args.t.now.sizes.terms)

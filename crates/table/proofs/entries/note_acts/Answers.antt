@@ -7,46 +7,34 @@ use Rattle.table.proofs.Columns.{column_as, walk_none, walk_more, walk_all}
 use Rattle.table.proofs.Actions.{by_item, state_items}
 use Rattle.table.proofs.entries.note_acts.Goals as goal
 
-pub item_count-n-requires : goal.item_count-n-requires
-item_count-n-requires c = (c.requires.1, c.requires.2)
-
-pub first_item-at-requires : goal.first_item-at-requires
-first_item-at-requires c = (c.requires.1, c.requires.2)
-
 pub loop-k-init : goal.loop-k-init
-loop-k-init c = let t = table_in c.args.table.now in
+loop-k-init c = let t = table_in c.args.t.now.numbers.now in
     (walk_first c.item_count-n.ensures c.first_item-at.ensures, walk_none _ _ _ (by_item t.grammar) (state_at t c.args.s).items no_item _)
 
 pub note_item-requires : goal.note_item-requires
 note_item-requires c = let (w, col) = c.loop-k.invariant in
     let l = col.long in
-    let g = c.requires.3 in
-    (c.requires.0, (walk_here c.requires.1 c.args.s c.requires.2 w c.loop-k-test.true).held, c.requires.2, omega arith)
+    let g = c.requires.1 in
+    ((walk_here c.args.t.now.states_held c.args.s c.requires.0 w c.loop-k-test.true).held, c.requires.0, omega arith)
 
 pub next_item-at-requires : goal.next_item-at-requires
-next_item-at-requires c = (walk_here c.requires.1 c.args.s c.requires.2 c.loop-k.invariant.0 c.loop-k-test.true).held
-
-pub overflow_add-k : goal.overflow_add-k
-overflow_add-k c = let w = c.loop-k.invariant.0.passed in let t = c.loop-k-test.true in omega arith
-
-pub loop-k-smaller : goal.loop-k-smaller
-loop-k-smaller c = let t = c.loop-k-test.true in omega arith
+next_item-at-requires c = (walk_here c.args.t.now.states_held c.args.s c.requires.0 c.loop-k.invariant.0 c.loop-k-test.true).held
 
 pub loop-k-preserved : goal.loop-k-preserved
-loop-k-preserved c = let t = table_in c.args.table.now in
+loop-k-preserved c = let t = table_in c.args.t.now.numbers.now in
     let (w, col) = c.loop-k.invariant in
     let l = c.loop-k-test.true in
     let n = w.counted in
-    let h = walk_here c.requires.1 c.args.s c.requires.2 w l in (
+    let h = walk_here c.args.t.now.states_held c.args.s c.requires.0 w l in (
       walk_on w l h c.next_item-at.ensures,
       walk_more _ _ _ (by_item t.grammar) (state_at t c.args.s).items no_item (omega arith) col
           (column_as c.note_item.ensures (λ a j. ap (by_item t.grammar a) h.same)),
     )
 
 pub returns : goal.returns
-returns c = let t = table_in c.args.table.now in
+returns c = let t = table_in c.args.t.now.numbers.now in
     let (w, col) = c.loop-k.invariant in
     let n = w.counted in
     let p = w.passed in
     let l = c.loop-k-test.false in
-    walk_all _ _ _ (by_item t.grammar) (state_at t c.args.s).items no_item c.loop-k.k (omega arith) _ (state_items t c.args.s) col
+    walk_all _ _ _ (by_item t.grammar) (state_at t c.args.s).items no_item c.loop-k._k (omega arith) _ (state_items t c.args.s) col

@@ -1,5 +1,4 @@
 -- `entries::note_acts` meets its contract: the loop keeps that the column has the first of what the items passed are worth.
-use Prim.Native.Nat.{◌-◌}
 use lib.ListN.{take}
 use Rattle.theory.specs.Table.{state_at}
 use Rattle.table.specs.Places.{table_in, grammar_in}
@@ -10,7 +9,4 @@ use Rattle.table.proofs.Actions.{by_item}
 use Rattle.table.proofs.entries.note_acts.Given as goal
 
 abbrev pub invariant-loop-k : goal.invariant-loop-k
-invariant-loop-k l = AtItem l.table l.state_at l.s l.n l.k l.at × Column l.sizes.terms l.sizes.states l.s (λ a. firsts (by_item (grammar_in l.table) a) (take l.k (state_at (table_in l.table) l.s).items)) l.initial.acts l.acts
-
-abbrev pub decreases-loop-k : goal.decreases-loop-k
-decreases-loop-k l = l.n - l.k
+invariant-loop-k l = AtItem l.t.numbers.now l.t.state_at.now l.s l.n l._k l.at × Column l.t.sizes.terms l.t.sizes.states l.s (λ a. firsts (by_item (grammar_in l.t.numbers.now) a) (take l._k (state_at (table_in l.t.numbers.now) l.s).items)) l.initial.acts l.acts

@@ -1,88 +1,56 @@
-use mathlib.Core.List.{List}
-use Prim.Native.Nat.{ℕ, ◌+◌, ◌*◌, ◌<◌}
+use Prim.Native.Nat.{ℕ, suc, ◌+◌, ◌*◌, ◌-◌, ◌<◌}
 use native.Mathlib.Omega.{arith}
-use mathlib.Core.Path.{◌∙◌, sym, subst}
-use lib.ListN.{get_or}
-use Rattle.lines.specs.Limits.{max_terms, max_states}
+use mathlib.Core.Bool.{cond}
+use mathlib.Core.List.{List}
+use mathlib.Core.Path.{◌≡◌, ◌∙◌, sym, subst, ap}
+use lib.ListN.{get_or, take, drop}
+use Rattle.theory.specs.Table.{has}
 use Rattle.table.specs.LookUps.Columns.{Column}
 use Rattle.table.specs.Items.{item_in}
-use Rattle.table.proofs.Columns.{in_rows, in_size, walk_none, walk_more, walk_all}
+use Rattle.table.proofs.Columns.{in_rows, walk_none, walk_more, walk_all}
 use Rattle.table.proofs.Actions.{by_token, tokens_first, note_one, skip_one}
 use Rattle.table.proofs.entries.note_set.Goals as goal
-use Rattle.table.proofs.entries.note_set.Goals.{then-a-terms, else-a-terms}
+use Rattle.table.proofs.entries.note_set.Goals.{then-a-t, else-a-t}
 
-pub item_rule-rule-requires : goal.item_rule-rule-requires
-item_rule-rule-requires c = c.requires.0
+-- the members of the set, cut out by the line's count
+abbrev members : List ℕ → ℕ → ℕ → List ℕ
+members ns p n = take (p + 1 + n - (p + 3)) (drop (p + 3) ns)
 
-pub number-n-requires : goal.number-n-requires
-number-n-requires c = let i = c.requires.0.line.inside in omega arith
+members-are : (ns : List ℕ) (p n : ℕ) → n ≡ get_or ns p 0 → members ns p n ≡ (item_in ns p).ahead
+unfolding item_in
+members-are ns p n e = let l : p + 1 + n - (p + 3) ≡ get_or ns p 0 - 2 = omega arith in ap (λ (k : ℕ). take k (drop (p + 3) ns)) l
 
-pub overflow_sub-n : goal.overflow_sub-n
-overflow_sub-n c = let h = c.requires.0.line.counted in let e = c.number-n.ensures in omega arith
+pub loop-x-init : goal.loop-x-init
+loop-x-init c = let ns = c.args.t.now.numbers.now in
+    walk_none _ _ _ (by_token (item_in ns c.args.at).rule) (members ns c.args.at c.number-n.result) 0 _
 
-pub loop-j-init : goal.loop-j-init
-loop-j-init c = let h = c.requires.0.line.counted in
-    let e = c.number-n.ensures in
-    let i = item_in c.args.table.now c.args.at in
-    (omega arith, omega arith, walk_none _ _ _ (by_token i.rule) i.ahead 0 _)
-
-pub overflow_add-at : goal.overflow_add-at
-overflow_add-at c = let i = c.requires.0.line.inside in omega arith
-
-pub overflow_add-at-in-loop-j : goal.overflow_add-at-in-loop-j
-overflow_add-at-in-loop-j c = let i = c.requires.0.line.inside in let (n, j, col) = c.loop-j.invariant in let t = c.loop-j-test.true in omega arith
-
-pub number-a-requires : goal.number-a-requires
-number-a-requires c = let i = c.requires.0.line.inside in let (n, j, col) = c.loop-j.invariant in let t = c.loop-j-test.true in omega arith
-
-pub overflow_mul-a : goal.overflow_mul-a
-overflow_mul-a c = let p : c.number-a.result * c.args.m + c.args.s < max_terms * max_states = in_size {h = c.args.terms} {m = c.args.m} max_terms max_states c.if-a-terms.true c.requires.3 c.requires.2 c.requires.4 in
-    omega arith
-
-pub overflow_add-a : goal.overflow_add-a
-overflow_add-a c = let p : c.number-a.result * c.args.m + c.args.s < max_terms * max_states = in_size {h = c.args.terms} {m = c.args.m} max_terms max_states c.if-a-terms.true c.requires.3 c.requires.2 c.requires.4 in
-    omega arith
-
-pub note-requires : goal.note-requires
-note-requires c = let p : c.number-a.result * c.args.m + c.args.s < c.args.terms * c.args.m = in_rows c.if-a-terms.true c.requires.3 in
-    let n = c.loop-j.invariant.2.long in
-    let g = c.requires.5 in
-    let r = c.item_rule-rule.ensures in
-    let w = c.requires.0.within.rule_in in
-    let b = c.requires.1 in
-    (omega arith, omega arith)
-
-pub overflow_add-j : goal.overflow_add-j
-overflow_add-j c = let t = c.loop-j-test.true in let n = c.loop-j.invariant.0 in omega arith
-
-pub loop-j-smaller : goal.loop-j-smaller
-loop-j-smaller c = let t = c.loop-j-test.true in omega arith
-
-pub loop-j-preserved : goal.loop-j-preserved
-loop-j-preserved c = let i = item_in c.args.table.now c.args.at in
-    let (n, p, col) = c.loop-j.invariant in
-    let t = c.loop-j-test.true in
-    let e = c.number-a.ensures ∙ c.requires.0.line.at_ahead c.loop-j.j (omega arith) in (
-      n,
-      omega arith,
-      elim c.if-a-terms.branch [
-        | then-a-terms w ↦
-            let t = w.if-a-terms.true in
-            let q : c.number-a.result * c.args.m + c.args.s < c.args.terms * c.args.m = in_rows t c.requires.3 in
-            let l = col.long in
-            let g = c.requires.5 in
-            walk_more _ _ _ (by_token i.rule) i.ahead 0 (omega arith) col
-            (note_one e c.item_rule-rule.ensures c.requires.3 t (omega arith) (w.acts-is ∙ w.note.ensures))
-        | else-a-terms w ↦
-            let same = λ (l : List ℕ). Column c.args.terms c.args.m c.args.s
-            (λ a. by_token i.rule a (get_or i.ahead c.loop-j.j 0)) c.loop-j.acts l in
-            walk_more _ _ _ (by_token i.rule) i.ahead 0 (omega arith) col
-            (subst same (sym w.acts-is) (skip_one i.rule e w.if-a-terms.false))
-      ],
-    )
+pub loop-x-preserved : goal.loop-x-preserved
+loop-x-preserved c = let ns = c.args.t.now.numbers.now in
+    let z = c.args.t.now.sizes in
+    let i = item_in ns c.args.at in
+    let xs = members ns c.args.at c.number-n.result in
+    let col = c.loop-x.invariant in
+    let more = c.loop-x-test.true in
+    let e = c.from-a.ensures in
+    elim c.if-a-t.branch [
+      | then-a-t w ↦
+          let t = w.if-a-t.true in
+          let q : c.from-a.result * z.states + c.args.s < z.terms * z.states = in_rows t c.requires.1 in
+          let l = col.long in
+          let g = c.requires.2 in
+          walk_more _ _ _ (by_token i.rule) xs 0 more col
+          (note_one e c.item_rule-rule.ensures c.requires.1 t (omega arith) (w.acts-is ∙ w.note.ensures))
+      | else-a-t w ↦
+          let same = λ (l : List ℕ). Column z.terms z.states c.args.s (λ a. by_token i.rule a (get_or xs c.loop-x.x-index 0)) c.loop-x.acts l in
+          walk_more _ _ _ (by_token i.rule) xs 0 more col (subst same (sym w.acts-is) (skip_one i.rule e w.if-a-t.false))
+    ]
 
 pub returns : goal.returns
-returns c = let i = item_in c.args.table.now c.args.at in
-    let (n, p, col) = c.loop-j.invariant in
-    let t = c.loop-j-test.false in
-    walk_all _ _ _ (by_token i.rule) i.ahead 0 c.loop-j.j (omega arith) _ (tokens_first i.rule i.ahead) col
+returns c = let ns = c.args.t.now.numbers.now in
+    let t = c.loop-x-test.false in
+    let z = c.args.t.now.sizes in
+    let i = item_in ns c.args.at in
+    let xs = members ns c.args.at c.number-n.result in
+    subst (λ k. Column z.terms z.states c.args.s (λ a. cond (has k a) (suc i.rule) 0) c.args.acts.now c.loop-x.acts)
+    (members-are ns c.args.at c.number-n.result c.number-n.ensures)
+    (walk_all _ _ _ (by_token i.rule) xs 0 c.loop-x.x-index (omega arith) _ (tokens_first i.rule xs) c.loop-x.invariant)

@@ -1,12 +1,9 @@
 -- `faults::lowest_ring` meets its contract: the loop keeps that no nonterminal passed is on a ring.
-use Prim.Native.Nat.{ℕ, ◌≤◌, ◌<◌, ◌-◌}
+use Prim.Native.Nat.{ℕ, ◌<◌}
 use Rattle.theory.specs.Grammar.{UnitTo}
 use Rattle.table.specs.Places.{grammar_in}
 use Rattle.table.specs.Notions.{nonterm}
 use Rattle.table.proofs.faults.lowest_ring.Given as goal
 
 abbrev pub invariant-loop-k : goal.invariant-loop-k
-invariant-loop-k l = (l.k ≤ l.sizes.nonterms) × ((j : ℕ) → j < l.k → UnitTo (grammar_in l.table) (nonterm (grammar_in l.table) j) (nonterm (grammar_in l.table) j) → ⊥)
-
-abbrev pub decreases-loop-k : goal.decreases-loop-k
-decreases-loop-k l = l.sizes.nonterms - l.k
+invariant-loop-k l = ((j : ℕ) → j < l.k → UnitTo (grammar_in l.t.numbers.now) (nonterm (grammar_in l.t.numbers.now) j) (nonterm (grammar_in l.t.numbers.now) j) → ⊥)

@@ -9,7 +9,7 @@ use Rattle.table.proofs.FirstSets.{left}
 use Rattle.table.proofs.firsts.firsts.Given as goal
 
 abbrev pub invariant-loop-grew : goal.invariant-loop-grew
-invariant-loop-grew l = FirstPart (grammar_in l.table) l.rows × (l.grew ≡ false → (q : ℕ) → q < l.sizes.rules → FirstClosed (grammar_in l.table) l.rows (rule_at (grammar_in l.table) q))
+invariant-loop-grew l = FirstPart (grammar_in l.t.numbers.now) l.rows × (l.grew ≡ false → (q : ℕ) → q < l.t.sizes.rules → FirstClosed (grammar_in l.t.numbers.now) l.rows (rule_at (grammar_in l.t.numbers.now) q))
 
 abbrev pub decreases-loop-grew : goal.decreases-loop-grew
-decreases-loop-grew l = left (grammar_in l.table) l.rows l.grew
+decreases-loop-grew l = left (grammar_in l.t.numbers.now) l.rows l.grew

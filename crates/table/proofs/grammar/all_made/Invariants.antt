@@ -1,5 +1,5 @@
 -- `grammar::all_made` meets its contract: the loop keeps that all symbols passed are made.
-use Prim.Native.Nat.{ℕ, ◌≤◌, ◌<◌, ◌-◌}
+use Prim.Native.Nat.{ℕ, ◌<◌}
 use mathlib.Core.Bool.{true}
 use mathlib.Core.Path.{◌≡◌}
 use lib.ListN.{get_or}
@@ -9,7 +9,4 @@ use Rattle.table.specs.Places.{grammar_in}
 use Rattle.table.proofs.grammar.all_made.Given as goal
 
 abbrev pub invariant-loop-j : goal.invariant-loop-j
-invariant-loop-j l = (l.j ≤ l.n) × ((k : ℕ) → k < l.j → made l.sizes.terms l.set (get_or (rule_at (grammar_in l.table) l.r).right k 0) ≡ true)
-
-abbrev pub decreases-loop-j : goal.decreases-loop-j
-decreases-loop-j l = l.n - l.j
+invariant-loop-j l = ((k : ℕ) → k < l.j → made l.t.sizes.terms l.set (get_or (rule_at (grammar_in l.t.numbers.now) l.r).right k 0) ≡ true)

@@ -12,16 +12,16 @@ use Rattle.table.proofs.grammar.productive_by.Goals as goal
 
 pub with-requires : goal.with-requires
 with-requires c = let e = c.left_of-a.ensures in
-    let h = held_left c.requires.0 c.args.r c.requires.1 in
-    let n = held_nonterms c.requires.0 in
+    let h = held_left c.args.t.now.rules_held c.args.r c.requires.0 in
+    let n = held_nonterms c.args.t.now.rules_held in
     (omega arith, omega arith)
 
 pub returns-then-all_made : goal.returns-then-all_made
-returns-then-all_made c = let g = grammar_in c.args.table.now in
-    let H = c.requires.0 in
+returns-then-all_made c = let g = grammar_in c.args.t.now.numbers.now in
+    let H = c.args.t.now.rules_held in
     subst (Grows g Notion.Productive (rule_at g c.args.r) c.args.set) (with-is c.args.set c.with.ensures H.terms_are c.left_of-a.ensures)
-    (productive_grows g (held_formed H) (held_mem H c.args.r c.requires.1) c.requires.2 (c.all_made.ensures.holds c.if-all_made.true))
+    (productive_grows g (held_formed H) (held_mem H c.args.r c.requires.0) c.requires.1 (c.all_made.ensures.holds c.if-all_made.true))
 
 pub returns : goal.returns
-returns c = let g = grammar_in c.args.table.now in
-    stays g c.requires.2 (λ m. absurd (refutes c.all_made.ensures c.if-all_made.false m))
+returns c = let g = grammar_in c.args.t.now.numbers.now in
+    stays g c.requires.1 (λ m. absurd (refutes c.all_made.ensures c.if-all_made.false m))

@@ -5,7 +5,7 @@ use Rattle.table.specs.Notions.{Part, GrownBy}
 use Rattle.table.proofs.grammar.set_of.Given as goal
 
 abbrev pub invariant-loop-next : goal.invariant-loop-next
-invariant-loop-next l = Part (grammar_in l.table) l.notion l.set × GrownBy (grammar_in l.table) l.notion l.sizes.rules l.set l.next
+invariant-loop-next l = Part (grammar_in l.t.numbers.now) l.notion l.set × GrownBy (grammar_in l.t.numbers.now) l.notion l.t.sizes.rules l.set l.next
 
 abbrev pub decreases-loop-next : goal.decreases-loop-next
-decreases-loop-next l = 2 ^ (grammar_in l.table).nonterms - l.set
+decreases-loop-next l = 2 ^ (grammar_in l.t.numbers.now).nonterms - l.set
