@@ -11,7 +11,7 @@ use Rattle.theory.specs.Forest.{Forest, nothing, tree, grow, short, over, Rising
 use Rattle.theory.specs.Forest.Sizes.{inner}
 use Rattle.theory.proofs.Forest.Sizes.{size-split, parts}
 use Rattle.theory.proofs.Forest.Growth.{grow-inner, grow-rising}
-use Rattle.forest.specs.Words.{at, poke, Inside, poke-len, at_same, at_other}
+use Rattle.forest.specs.Words.{at, poke, Inside, max_words, poke-len, at_same, at_other}
 use Rattle.forest.specs.Trees.{Tree, nil, node, erase, weigh, one, each, occ, size, Rep, live}
 use Rattle.forest.specs.Pools.{Pool, pooled, add, dropped}
 use Rattle.forest.specs.Grows.{Source, SomeSource, Grown, Grows, GrowsTold}
@@ -351,3 +351,47 @@ reaped {w₀} {row} {w} {d} {x} {a} {long} G e = subst (λ (b : Bool). GrowsTold
 -- without the answer
 pub untold : {w row : List ℕ} {d x : ℕ} {v : List ℕ} {r : Bool} → GrowsTold w row d x v r → Grows w row d x v
 untold G m t y f to P R T = (G m t y f to P R T).0
+
+-- ---- a turn of the loop, by what the code does with the first tree
+module _ {w₀ row w : List ℕ} {d x a : ℕ} {long : Bool} (G : Sown w₀ row d x long w a) (a≢ : a ≡ 0 → ⊥) where
+  -- the root at hand is in the room
+  pub root_in : Inside w a × (length w ≤ max_words)
+  root_in = (source_in w row a a≢ G.some, G.some.holds.words)
+
+  -- cut off from those beside it, it can sprout
+  pub cut_off : {u : List ℕ} → u ≡ poke w a 2 0 → SomeSource u row a × (0 < a) × (at u a 2 ≡ 0)
+  cut_off {u} e = (
+    subst⁻¹ (λ (l : List ℕ). SomeSource l row a) e (first_some w row a a≢ G.some),
+    omega arith,
+    subst⁻¹ (λ (l : List ℕ). at l a 2 ≡ 0) e (at_same w a 2 0 (omega arith) root_in.0),
+  )
+
+  -- then its part is done
+  pub sprouted : {u v : List ℕ} → u ≡ poke w a 2 0 → d ≡ 0 → Grows u row 0 a v → Turned w row d a v (at w a 2) false
+  sprouted {u} {v} e z H = subst⁻¹ (λ (k : ℕ). Turned w row k a v (at w a 2) false) z
+      (first_turn w row a a≢ G.some v (subst (λ (l : List ℕ). Grows l row 0 a v) e H))
+
+  module _ {u : List ℕ} {c : ℕ} (dropped-is : u ≡ dropped w a) (kids-are : c ≡ at w a 1) (deep : d ≡ 0 → ⊥) where
+    -- where it goes, what lies below it can be grown
+    pub kids_grow : SomeSource u row c
+    kids_grow = subst⁻¹ (λ (l : List ℕ). SomeSource l row c) dropped-is
+        (subst⁻¹ (λ (z : ℕ). SomeSource (dropped w a) row z) kids-are (kids_some w row a a≢ G.some))
+
+    -- then its part is done, and is short if a path below it is
+    pub kids_done : (c ≡ 0 → ⊥) → {v : List ℕ} {r : Bool} → GrowsTold u row (d - 1) c v r → Turned w row d a v (at w a 2) r
+    kids_done n {v} {r} H =
+        kids_turn_at w row a a≢ G.some v d r r deep (λ z. absurd (n (kids-are ∙ z))) (λ z. refl)
+        (subst (λ (l : List ℕ). GrowsTold l row (d - 1) (at w a 1) v r) dropped-is
+        (subst (λ (z : ℕ). GrowsTold u row (d - 1) z v r) kids-are H))
+
+    -- nothing lies below it: the path is short
+    pub no_kids : c ≡ 0 → Turned w row d a u (at w a 2) true
+    no_kids e =
+        let z = sym kids-are ∙ e in
+        kids_turn_at w row a a≢ G.some u d true false deep (λ i. refl) (λ i. absurd (i z))
+        (subst⁻¹ (λ (l : List ℕ). GrowsTold (dropped w a) row (d - 1) (at w a 1) l false) dropped-is
+        (end_told (dropped w a) row (d - 1) (at w a 1) z))
+
+-- a turn leaves fewer live nodes to grow
+pub turned_falls : {w row v : List ℕ} {d a n : ℕ} {h : Bool} → Turned w row d a v (at w a 2) h → n ≡ at w a 2 → live v n < live w a
+turned_falls {w} {v = v} {a = a} T e = subst⁻¹ (λ (z : ℕ). live v z < live w a) e T.falls

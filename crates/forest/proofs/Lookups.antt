@@ -1,4 +1,4 @@
--- The look-ups of a table, row by row: a part of the rows is the row of its symbol or token, and the numbers are small.
+-- The look-ups of a table, row by row: a part of the rows is the row of its symbol or token.
 use mathlib.Core.Path.{◌≡◌, ◌∙◌, refl, sym, subst, subst⁻¹}
 use mathlib.Core.Bool.{Bool, true, false, cond}
 use mathlib.Core.Option.{Option, none, some, some-injective, none-ne-some}
@@ -7,23 +7,17 @@ use mathlib.Core.List.Memᴰ
 use mathlib.Core.List.{Memᴰ as Mem}
 use Prim.Native.Nat.{ℕ, suc, ◌+◌, ◌*◌, ◌-◌, ◌≤◌, ◌<◌}
 use native.Mathlib.Omega.{arith}
-use native.Mathlib.Nat.{mul-le-mul, mul-le-mul_right}
+use native.Mathlib.Nat.{mul-le-mul_right}
 use native.Mathlib.Decide.{dec_lt, ℕ_discrete}
 use borrow.Author.Tests.{eqb-false}
 use lib.Dec.{eqb}
-use lib.ListN.{length, get_or, take, drop, length-drop, get_or-eq_default}
+use lib.ListN.{length, get_or, drop, length-drop, get_or-eq_default}
 use lib.Seq.{get_or-take, get_or-drop, length-take-le}
-use Rattle.lines.specs.Limits.{max_terms, max_nonterms, max_states}
-use Rattle.lines.specs.Ranges.{InRange}
 use Rattle.theory.specs.Table.{Table, Item, InState, count, goto, reduce_on}
 use Rattle.theory.specs.Table.Facts.{Facts}
 use Rattle.theory.proofs.Table.Facts.{item_state}
 use Rattle.theory.proofs.Table.Actions.{reduce_on-item}
-use Rattle.forest.specs.Rows.{meant, Row, Acts, GoRows, ActRows}
-
--- the part of the rows from k · m to k · m + m
-abbrev pub row_of : List ℕ → ℕ → ℕ → List ℕ
-row_of rows m k = take (k * m + m - k * m) (drop (k * m) rows)
+use Rattle.forest.specs.Rows.{row_of, meant, Row, Acts, GoRows, ActRows}
 
 -- ---- what an entry means
 
@@ -118,16 +112,6 @@ module _ (t : Table) (P : Facts t) where
   pub act_row : (acts : List ℕ) → ActRows t acts → (m a : ℕ) → m ≡ count t → a < t.grammar.terms → Acts (row_of acts m a) (count t) t a
   act_row acts G m a e h = subst⁻¹ (λ (k : ℕ). Acts (row_of acts k a) (count t) t a) e (act_row_at acts G a h)
 
--- ---- the numbers are small
-
 -- a row lies within the rows
 pub row_end : (m k n l : ℕ) → k < n → n * m ≤ l → k * m + m ≤ l
 row_end m k n l h g = omega (arith, mul-le-mul_right m h)
-
--- a symbol's row begins and ends below a small number
-pub row_small : (t : Table) → InRange t → (m y : ℕ) → m ≡ count t → y ≤ t.grammar.terms + t.grammar.nonterms →
-    y * m + m ≤ suc (max_terms + max_nonterms) * max_states
-row_small t R m y e h =
-    let a = R.term_count in let b = R.nonterm_count in let c = R.state_count in
-    let p : suc y * m ≤ suc (max_terms + max_nonterms) * max_states = mul-le-mul {n₂ = suc (max_terms + max_nonterms)} {m₂ = max_states} (omega arith) (omega arith) in
-    omega arith

@@ -1,14 +1,13 @@
 -- The reduce phase as a loop. What is left of the phase from any turn on is what was left of it before, less the steps made; the potential
 -- pays for each step, so the loop's limit is never met.
 use mathlib.Core.Path.{◌≡◌, ◌∙◌, refl, sym, ap, subst}
-use mathlib.Core.Bool.{not}
+use mathlib.Core.Bool.{Bool, false}
 use mathlib.Core.Option.{Option, none, some}
 use mathlib.Core.List.{List, []}
-use Prim.Native.Nat.{ℕ, suc, ◌+◌, ◌*◌, ◌-◌, ◌≤◌, ◌<◌}
+use Prim.Native.Nat.{ℕ, suc, ◌+◌, ◌*◌, ◌≤◌, ◌<◌}
 use native.Mathlib.Omega.{arith}
 use native.Mathlib.Nat.{mul-le-mul, mul-le-mul_left, mul-le-mul_right}
-use lib.Dec.{eqb}
-use lib.ListN.{length, get_or, replicate, length-replicate, get_or-replicate}
+use lib.ListN.{get_or, replicate, length-replicate, get_or-replicate}
 use Rattle.lines.specs.Limits.{max_nonterms, max_states, max_tail}
 use Rattle.lines.specs.Ranges.{InRange}
 use Rattle.theory.specs.Table.{Table, Passes, count, has}
@@ -23,12 +22,10 @@ use Rattle.theory.specs.Bound.Heights.{Height}
 use Rattle.theory.proofs.Bound.Heights.{height}
 use Rattle.theory.proofs.Bound.Potential.{Inv, cost-split, pending-le}
 use Rattle.theory.proofs.Bound.Steps.{weight, each, potential, step_falls}
-use Rattle.forest.specs.Words.{at, Inside, max_words}
+use Rattle.forest.specs.Words.{at}
 use Rattle.forest.specs.Picks.{SomeLinked, Picks}
 use Rattle.forest.specs.Held.{Held, Becomes}
 use Rattle.forest.specs.Phases.{max_symbols, most_steps, Marks, CanStep, SomeStep, Steps, CanPhase, SomePhase, Phases}
-use Rattle.forest.proofs.Taking.{zero_in}
-use Rattle.forest.proofs.Turns.{inside_at}
 use Rattle.forest.proofs.Holding.{beyond_then}
 use Rattle.forest.proofs.Parting.{CanPick, OnePicked, pick_some, pick_picks}
 use Rattle.forest.proofs.Lookups.{meant_is, rule_in}
@@ -73,7 +70,7 @@ module _ (t : Table) (passes : Passes t) where
 -- ---- the loop
 
 -- after n steps the room holds the forest of the phase `now`, and what is left of the phase is the rest of the whole
-pub record Left (w₀ w marks : List ℕ) (n C : ℕ) (t : Table) (passes : Passes t) (a : ℕ) (F : Forest) : Type 0 where
+pub record Left (w₀ w : List ℕ) (marks : List Bool) (n C : ℕ) (t : Table) (passes : Passes t) (a : ℕ) (F : Forest) : Type 0 where
   pub now : Phase
   pub becomes : Becomes w₀ w C now.forest
   pub marked : Marks marks now.marked
@@ -83,48 +80,50 @@ pub record Left (w₀ w marks : List ℕ) (n C : ℕ) (t : Table) (passes : Pass
   pub back : (k : ℕ) (q : Phase) → Of.Reduces t a now k q → Of.Reduces t a (fresh_phase F) (n + k) q
 
 -- whatever forest the room held at first
-abbrev pub Turn : List ℕ → List ℕ → List ℕ → List ℕ → List ℕ → ℕ → List ℕ → List ℕ → ℕ → Type 0
-Turn w₀ acts go lens lefts m w marks n =
-    (C : ℕ) (t : Table) (a : ℕ) (F : Forest) → Held w₀ C F → (K : CanPhase acts go lens lefts m C t a F) → Left w₀ w marks n C t K.known.table.passes a F
+pub record Turn (w₀ acts go lens lefts : List ℕ) (m : ℕ) (w : List ℕ) (marks : List Bool) (n : ℕ) : Type 0 where
+  pub left : (C : ℕ) (t : Table) (a : ℕ) (F : Forest) → Held w₀ C F → (K : CanPhase acts go lens lefts m C t a F) →
+      Left w₀ w marks n C t K.known.table.passes a F
 
 -- no symbol is marked at first
-no_marks : Marks (replicate max_symbols 0) []
+no_marks : Marks (replicate max_symbols false) []
 unfolding has
 no_marks = record {
-  each = λ a h. sym (ap (λ (i : ℕ). not (eqb i 0)) (get_or-replicate max_symbols a 0 0 h));
-  all = length-replicate {A = ℕ} max_symbols 0;
+  each = λ a h. sym (get_or-replicate max_symbols a false false h);
+  all = length-replicate {A = Bool} max_symbols false;
 }
 
 -- at first the whole phase is left
-pub begins : (w acts go lens lefts : List ℕ) (m : ℕ) → Turn w acts go lens lefts m w (replicate max_symbols 0) 0
-begins w acts go lens lefts m C t a F H K = record {
-  now = fresh_phase F;
-  becomes = record { held = H; beyond = λ q i h l. refl };
-  marked = no_marks;
-  inv = K.before;
-  within = omega arith;
-  paid = omega (arith, pot-most t K.known.table.passes K.known.table.ranges (fresh_phase F) (omega (arith, K.room, H.fits, H.words)));
-  back = λ k q r. subst (λ (i : ℕ). Of.Reduces t a (fresh_phase F) i q) (omega arith) r;
+pub begins : {w acts go lens lefts : List ℕ} {m : ℕ} → Turn w acts go lens lefts m w (replicate max_symbols false) 0
+begins = record {
+  left = λ C t a F H K. record {
+    now = fresh_phase F;
+    becomes = record { held = H; beyond = λ q i h l. refl };
+    marked = no_marks;
+    inv = K.before;
+    within = omega arith;
+    paid = omega (arith, pot-most t K.known.table.passes K.known.table.ranges (fresh_phase F) (omega (arith, K.room, H.fits, H.words)));
+    back = λ k q r. subst (λ (i : ℕ). Of.Reduces t a (fresh_phase F) i q) (omega arith) r;
+  };
 }
 
-module _ (w₀ acts go lens lefts : List ℕ) (m : ℕ) (w marks : List ℕ) (n : ℕ) (T : Turn w₀ acts go lens lefts m w marks n) where
+module _ {w₀ acts go lens lefts : List ℕ} {m : ℕ} {w : List ℕ} {marks : List Bool} {n : ℕ} (T : Turn w₀ acts go lens lefts m w marks n) where
   -- what `choose` asks
   can_pick : (C : ℕ) (t : Table) (a : ℕ) (F : Forest) (H : Held w₀ C F) (K : CanPhase acts go lens lefts m C t a F) →
-      CanPick acts (count t) t a (T C t a F H K).now.forest
-  can_pick C t a F H K = record { does = K.does; rising = (T C t a F H K).inv.rising }
+      CanPick acts (count t) t a (T.left C t a F H K).now.forest
+  can_pick C t a F H K = record { does = K.does; rising = (T.left C t a F H K).inv.rising }
 
   -- so it can be called
   pub turn_choose : SomePhase w₀ acts go lens lefts m → SomeLinked w acts 0 1
   turn_choose S =
-      let L = T S.C S.t S.a S.F S.held S.can in
+      let L = T.left S.C S.t S.a S.F S.held S.can in
       pick_some w acts S.C (count S.t) S.t S.a L.now.forest L.becomes.held
       (can_pick S.C S.t S.a S.F S.held S.can)
 
   -- ---- none is picked: the phase is at its end
-  pub turn_ends : (v : List ℕ) (x : ℕ) → x ≡ 0 → Picks w acts 0 1 v x → Phases w₀ acts go lens lefts m v n
-  turn_ends v x z P C t a F H K =
-      let L = T C t a F H K in
-      let N = (pick_picks w acts v x P C (count t) t a L.now.forest L.becomes.held (can_pick C t a F H K)).0 z in
+  pub turn_ends : {v : List ℕ} → Picks w acts 0 1 v 0 → Phases w₀ acts go lens lefts m v n
+  turn_ends {v} P C t a F H K =
+      let L = T.left C t a F H K in
+      let N = (pick_picks w acts v 0 P C (count t) t a L.now.forest L.becomes.held (can_pick C t a F H K)).0 refl in
       record {
         end = L.now;
         reduces = subst (λ (k : ℕ). Of.Reduces t a (fresh_phase F) k L.now) (omega arith) (L.back 0 L.now (Of.done N.none_is));
@@ -133,9 +132,9 @@ module _ (w₀ acts go lens lefts : List ℕ) (m : ℕ) (w marks : List ℕ) (n 
       }
 
   -- ---- the limit is met: the potential is 0, so no root reduces
-  pub turn_limit : most_steps ≤ n → Phases w₀ acts go lens lefts m w n
-  turn_limit h C t a F H K =
-      let L = T C t a F H K in
+  pub turn_limit : n ≡ most_steps → Phases w₀ acts go lens lefts m w most_steps
+  turn_limit e C t a F H K =
+      let L = T.left C t a F H K in
       record {
         end = L.now;
         reduces = subst (λ (k : ℕ). Of.Reduces t a (fresh_phase F) k L.now) (omega arith)
@@ -153,15 +152,15 @@ module _ (w₀ acts go lens lefts : List ℕ) (m : ℕ) (w marks : List ℕ) (n 
 
   -- ---- one is picked, at x
 
-  module _ (v : List ℕ) (x : ℕ) (P : Picks w acts 0 1 v x) (x≢0 : x ≡ 0 → ⊥) where
+  module _ {v : List ℕ} {x : ℕ} (P : Picks w acts 0 1 v x) (above : 0 < x) where
     module _ (C : ℕ) (t : Table) (a : ℕ) (F : Forest) (H : Held w₀ C F) (K : CanPhase acts go lens lefts m C t a F) where
       -- what is left
       abbrev L : Left w₀ w marks n C t K.known.table.passes a F
-      L = T C t a F H K
+      L = T.left C t a F H K
 
       -- what was picked
       picked : OnePicked w v C x t a L.now.forest
-      picked = (pick_picks w acts v x P C (count t) t a L.now.forest L.becomes.held (can_pick C t a F H K)).1 x≢0
+      picked = (pick_picks w acts v x P C (count t) t a L.now.forest L.becomes.held (can_pick C t a F H K)).1 (λ z. omega arith)
 
       -- what is chosen
       abbrev c : Chosen
@@ -171,23 +170,17 @@ module _ (w₀ acts go lens lefts : List ℕ) (m : ℕ) (w marks : List ℕ) (n 
       chosen_is : choose t a L.now.forest ≡ some c
       chosen_is = picked.first.is
 
-      -- the state that is read is a state, and its action is one more than the rule
-      state_low : (s : ℕ) → s ≡ at v x 0 → s < length acts
-      state_low s e =
-          let A = taken_rising (choose-taken t a L.now.forest c chosen_is).taken L.inv.rising in
-          omega (arith, A.below, K.does.long, picked.at_r)
-
-      -- and its action is one more than the rule
-      act_is : (s : ℕ) → s ≡ at v x 0 → get_or acts s 0 ≡ suc c.rule
-      act_is s e =
-          ap (λ (i : ℕ). get_or acts i 0) (e ∙ picked.at_r)
+      -- its action is one more than the rule
+      act_is : get_or acts (at v x 0) 0 ≡ suc c.rule
+      act_is =
+          ap (λ (i : ℕ). get_or acts i 0) picked.at_r
           ∙ meant_is acts picked.state c.rule (sym (K.does.same picked.state) ∙ picked.first.on)
 
       -- what a step asks
-      can_step : (s r : ℕ) → s ≡ at v x 0 → r ≡ get_or acts s 0 - 1 → CanStep go lens lefts marks m r C t L.now c
-      can_step s r e q =
+      can_step : (r : ℕ) → get_or acts (at v x 0) 0 ≡ suc r → CanStep go lens lefts marks m r C t L.now c
+      can_step r e =
           let A = taken_rising (choose-taken t a L.now.forest c chosen_is).taken L.inv.rising in
-          let r-is : r ≡ c.rule = omega (arith, act_is s e) in
+          let r-is : r ≡ c.rule = omega (arith, act_is) in
           record {
             known = K.known;
             rule = r-is;
@@ -199,10 +192,10 @@ module _ (w₀ acts go lens lefts : List ℕ) (m : ℕ) (w marks : List ℕ) (n 
           }
 
       -- what is left after it
-      after_step : (s r : ℕ) → s ≡ at v x 0 → r ≡ get_or acts s 0 - 1 → (u marks' : List ℕ) → Steps v go lens lefts marks m x r u marks' →
+      after_step : (r : ℕ) → get_or acts (at v x 0) 0 ≡ suc r → (u : List ℕ) (marks' : List Bool) → Steps v go lens lefts marks m x r u marks' →
           Left w₀ u marks' (n + 1) C t K.known.table.passes a F
-      after_step s r e q u marks' S =
-          let D = S C t L.now c picked.split (can_step s r e q) in
+      after_step r e u marks' S =
+          let D = S C t L.now c picked.split (can_step r e) in
           let f = step_falls t (facts K.known.table.passes) t.grammar.nonterms (heights t K.known.table.passes) a L.now c L.inv chosen_is in
           record {
             now = reduced t L.now c;
@@ -217,33 +210,18 @@ module _ (w₀ acts go lens lefts : List ℕ) (m : ℕ) (w marks : List ℕ) (n 
             back = λ k z y. subst (λ (i : ℕ). Of.Reduces t a (fresh_phase F) i z) (omega arith) (L.back (suc k) z (Of.step c chosen_is y));
           }
 
-    module _ (S : SomePhase w₀ acts go lens lefts m) where
-      -- the state read is in the row
-      pub turn_low : (s : ℕ) → s ≡ at v x 0 → s < length acts
-      turn_low = state_low S.C S.t S.a S.F S.held S.can
-
-      -- its action is not 0
-      pub turn_act : (s : ℕ) → s ≡ at v x 0 → 1 ≤ get_or acts s 0
-      turn_act s e = omega (arith, act_is S.C S.t S.a S.F S.held S.can s e)
-
-      -- the chosen root's words are in the room
-      pub turn_get : Inside v x × (length v ≤ max_words)
-      turn_get =
-          let D = (picked S.C S.t S.a S.F S.held S.can).split in
-          (inside_at v 0 D.tree x (zero_in D.pool) D.rep, D.words)
-
-      -- so `step` can be called
-      pub turn_step : (s r : ℕ) → s ≡ at v x 0 → r ≡ get_or acts s 0 - 1 → SomeStep v go lens lefts marks m x r
-      turn_step s r e q = record {
-        C = S.C;
-        t = S.t;
-        p = (L S.C S.t S.a S.F S.held S.can).now;
-        c = c S.C S.t S.a S.F S.held S.can;
-        split = (picked S.C S.t S.a S.F S.held S.can).split;
-        can = can_step S.C S.t S.a S.F S.held S.can s r e q;
-      }
+    -- so `step` can be called
+    pub turn_step : SomePhase w₀ acts go lens lefts m → (r : ℕ) → get_or acts (at v x 0) 0 ≡ suc r → SomeStep v go lens lefts marks m x r
+    turn_step S r e = record {
+      C = S.C;
+      t = S.t;
+      p = (L S.C S.t S.a S.F S.held S.can).now;
+      c = c S.C S.t S.a S.F S.held S.can;
+      split = (picked S.C S.t S.a S.F S.held S.can).split;
+      can = can_step S.C S.t S.a S.F S.held S.can r e;
+    }
 
     -- after a turn the rest of the phase is left
-    pub turn_again : (s r : ℕ) → s ≡ at v x 0 → r ≡ get_or acts s 0 - 1 → (u marks' : List ℕ) → Steps v go lens lefts marks m x r u marks' →
+    pub turn_again : (r : ℕ) → get_or acts (at v x 0) 0 ≡ suc r → (u : List ℕ) (marks' : List Bool) → Steps v go lens lefts marks m x r u marks' →
         Turn w₀ acts go lens lefts m u marks' (n + 1)
-    turn_again s r e q u marks' S C t a F H K = after_step C t a F H K s r e q u marks' S
+    turn_again r e u marks' S = record { left = λ C t a F H K. after_step C t a F H K r e u marks' S }

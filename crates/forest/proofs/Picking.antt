@@ -2,15 +2,17 @@
 use mathlib.Core.Path.{◌≡◌, ◌∙◌, refl, sym, ap, subst, subst⁻¹}
 use mathlib.Core.Option.{none, some}
 use mathlib.Core.List.{List}
-use Prim.Native.Nat.{ℕ, ◌+◌, ◌-◌, ◌<◌, ◌≤◌}
+use Prim.Native.Nat.{ℕ, ◌+◌, ◌<◌, ◌≤◌}
 use native.Mathlib.Omega.{arith}
+use native.Mathlib.Numerals.{add-one}
+use Rattle.std.specs.Prelude.{Some}
 use lib.ListN.{length, get_or}
 use Rattle.theory.specs.Table.{Table, reduce_on}
 use Rattle.theory.specs.Forest.{Forest, nothing, tree, choose, chosen}
 use Rattle.theory.proofs.Forest.Sizes.{parts}
-use Rattle.forest.specs.Words.{stride, at, poke, Inside, poke-len, at_same, at_other}
+use Rattle.forest.specs.Words.{stride, at, poke, Inside, max_words, poke-len, at_same, at_other}
 use Rattle.forest.specs.Trees.{Tree, nil, node, erase, weigh, one, occ, Rep, live}
-use Rattle.forest.specs.Picks.{Linked, SomeLinked, Choice, Picked, Picks}
+use Rattle.forest.specs.Picks.{Linked, SomeLinked, Choice, Picked, Picks, PicksOne}
 use Rattle.forest.specs.Rows.{Acts}
 use Rattle.forest.proofs.Frame.{one-self, frame, differ, still, live-rep}
 use Rattle.forest.proofs.Sprouting.{meant-none, meant-some}
@@ -153,10 +155,10 @@ module _ (w acts : List ℕ) (d j a : ℕ) (is : a ≡ at w d j) where
     opens Q h m (node p s k n) L = subst⁻¹ (λ (z : ℕ). Q m z (node p s k n)) (is ∙ L.rep.is) (h m p s k n L.rep.state L)
 
     -- a root with an action is picked
-    pub here_picks : (get_or acts (at w a 0) 0 ≡ 0 → ⊥) → Picks w acts d j (poke (poke w d j (at w a 2)) a 2 0) a
-    here_picks h m t y f A L =
-        opens (λ m z f. (get_or acts (at w z 0) 0 ≡ 0 → ⊥) → Picked w (poke (poke w d j (at w z 2)) z 2 0) d j z t y f)
-        (λ m p s k n e L h. here_picked w d j m p s k n L t y (get_or acts s 0 - 1) (A.same s ∙ meant-some acts s (λ z. h (ap (λ (i : ℕ). get_or acts i 0) e ∙ z)))) m f L h
+    pub here_picks : (r : ℕ) → get_or acts (at w a 0) 0 ≡ r + 1 → Picks w acts d j (poke (poke w d j (at w a 2)) a 2 0) a
+    here_picks r h m t y f A L =
+        opens (λ m z f. get_or acts (at w z 0) 0 ≡ r + 1 → Picked w (poke (poke w d j (at w z 2)) z 2 0) d j z t y f)
+        (λ m p s k n e L h. here_picked w d j m p s k n L t y r (A.same s ∙ meant-some acts s r (ap (λ (i : ℕ). get_or acts i 0) (sym e) ∙ h))) m f L h
 
     -- past one without, what is picked later is picked
     pub on_picks : get_or acts (at w a 0) 0 ≡ 0 → (v : List ℕ) (r : ℕ) → Picks w acts a 2 v r → Picks w acts d j v r
@@ -194,3 +196,46 @@ pub record Picked-on (w₀ acts : List ℕ) (w : List ℕ) (d j a : ℕ) : Type 
   pub is : a ≡ at w d j
   pub same : w ≡ w₀
   pub back : (v : List ℕ) (r : ℕ) → Picks w acts d j v r → Picks w₀ acts 0 1 v r
+
+-- ---- a turn of the loop
+module _ {w₀ acts w : List ℕ} {d j a : ℕ} (G : Picked-on w₀ acts w d j a) where
+  -- the list is at its end: none is picked
+  pub none_picked : a ≡ 0 → Picks w₀ acts 0 1 w 0
+  none_picked e = G.back w 0 (end_picks w acts d j a G.is e)
+
+  module _ (a≢ : a ≡ 0 → ⊥) where
+    -- the root at hand is in the room
+    pub root_in : Inside w a × (length w ≤ max_words)
+    root_in = (linked_in w acts d j a G.is a≢ G.some, G.some.holds.words)
+
+    -- its state is in the row
+    pub root_state : at w a 0 < length acts
+    root_state = linked_state w acts d j a G.is a≢ G.some
+
+    module _ {s n : ℕ} (is : s ≡ at w a 0) (next : n ≡ at w a 2) where
+      -- fewer live nodes are left behind it
+      pub root_falls : live w n < live w a
+      root_falls = subst⁻¹ (λ (z : ℕ). live w z < live w a) next (linked_falls w acts d j a G.is a≢ G.some)
+
+      -- one that reduces by no rule is passed by
+      pub root_passed : get_or acts s 0 ≡ 0 → Picked-on w₀ acts w a 2 n
+      root_passed h = record {
+        some = on_some w acts d j a G.is a≢ G.some;
+        is = next;
+        same = G.same;
+        back = λ v r H. G.back v r (on_picks w acts d j a G.is a≢ (ap (λ (i : ℕ). get_or acts i 0) (sym is) ∙ h) v r H);
+      }
+
+      -- one that reduces is picked with its rule
+      pub root_picked : (r : ℕ) → get_or acts s 0 ≡ r + 1 → (u v : List ℕ) → u ≡ poke w d j n → v ≡ poke u a 2 0 →
+          PicksOne w₀ acts v (Some (record { root = a; rule = r }))
+      root_picked r h u v eu ev =
+          let o : get_or acts (at w a 0) 0 ≡ r + 1 = ap (λ (i : ℕ). get_or acts i 0) (sym is) ∙ h in
+          let z : at v a 0 ≡ at w a 0 = ap (λ (l : List ℕ). at l a 0) (ev ∙ ap (λ (l : List ℕ). poke l a 2 0) eu)
+          ∙ at_other (poke w d j n) a 2 0 a 0 (omega arith) (omega arith) (λ p q. omega arith)
+          ∙ at_other w d j n a 0 (omega (arith, G.some.holds.link)) (omega arith) (λ p q. omega (arith, G.some.holds.link)) in (
+            G.back v a (subst⁻¹ (λ (l : List ℕ). Picks w acts d j l a)
+                (ev ∙ ap (λ (l : List ℕ). poke l a 2 0) (eu ∙ ap (λ (x : ℕ). poke w d j x) next)) (here_picks w acts d j a G.is a≢ r o)),
+            omega arith,
+            ap (λ (i : ℕ). get_or acts i 0) z ∙ o ∙ add-one r,
+          )

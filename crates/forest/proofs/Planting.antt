@@ -258,11 +258,10 @@ module _ {w row v : List ℕ} {x i : ℕ} (G : Sown w row v x (suc i)) where
   sown_took v₁ p K = let L = sown_left in (K L.P L.has).inside
 
   -- a turn at a state
-  pub sown_root : (get_or row i 0 ≡ 0 → ⊥) → (v₁ : List ℕ) (p : ℕ) → Takes v p v₁ → length v₁ ≡ length v →
-      Sown w row (rooted v₁ p (get_or row i 0 - 1) x) p i
-  sown_root n v₁ p K l =
-      let u = get_or row i 0 - 1 in
-      let e : get_or row i 0 ≡ suc u = omega (arith, n) in
+  pub sown_root : (u : ℕ) → get_or row i 0 ≡ u + 1 → (v₁ : List ℕ) (p : ℕ) → Takes v p v₁ → length v₁ ≡ length v →
+      Sown w row (rooted v₁ p u x) p i
+  sown_root u is v₁ p K l =
+      let e : get_or row i 0 ≡ suc u = omega arith in
       record {
         low = omega (arith, G.low);
         some = G.some;

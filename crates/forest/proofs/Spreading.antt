@@ -199,9 +199,9 @@ module _ {w row v : List ℕ} {i : ℕ} (G : Goes w row v (suc i)) where
       record { f = node p u nil nil; g = S.tree; P = k.left; two = more_two w v row i G.done G.all Q.P Q.has S v₁ p u k }
 
   -- a turn at an entry with a target
-  pub grows_on : (get_or row i 0 ≡ 0 → ⊥) → (v₁ : List ℕ) (p : ℕ) → Takes v p v₁ → (x : List ℕ) →
-      Joins (rooted v₁ p (get_or row i 0 - 1) 0) 0 2 p (at (rooted v₁ p (get_or row i 0 - 1) 0) 0 2) x → length x ≡ length v → Goes w row x i
-  grows_on e v₁ p K x J l =
+  pub grows_on : (u : ℕ) → get_or row i 0 ≡ u + 1 → (v₁ : List ℕ) (p : ℕ) → Takes v p v₁ → (x : List ℕ) →
+      Joins (rooted v₁ p u 0) 0 2 p (at (rooted v₁ p u 0) 0 2) x → length x ≡ length v → Goes w row x i
+  grows_on u e v₁ p K x J l =
       record {
         done = suc G.done;
         all = omega (arith, G.all);
@@ -210,8 +210,7 @@ module _ {w row v : List ℕ} {i : ℕ} (G : Goes w row v (suc i)) where
             λ P H.
             let S = G.spread P H in
             let k = K S.left (more_left w v row i G.done G.all P H S) in
-            let u = get_or row i 0 - 1 in
-            more_spread w v row i G.done G.all P H S v₁ p u k (meant-some row i e) x
+            more_spread w v row i G.done G.all P H S v₁ p u k (meant-some row i u e) x
             (J (node p u nil nil) S.tree k.left (more_two w v row i G.done G.all P H S v₁ p u k));
         len = l ∙ G.len;
       }

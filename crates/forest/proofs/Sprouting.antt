@@ -1,6 +1,6 @@
 -- A tree gets its go meant above it and is joined to the roots, or goes to the pool. Assumes nothing.
 use mathlib.Core.Path.{◌≡◌, ◌∙◌, refl, sym, ap, subst, subst⁻¹}
-use mathlib.Core.Option.{none, some}
+use mathlib.Core.Option.{Option, none, some}
 use mathlib.Core.List.{List}
 use Prim.Native.Nat.{ℕ, zero, suc, ◌+◌, ◌-◌, ◌<◌, ◌≤◌}
 use native.Mathlib.Omega.{arith}
@@ -119,9 +119,11 @@ unfolding meant
 meant-none row s e = simp (eq-eqb (get_or row s 0) 0 e)
 
 -- another means one less
-pub meant-some : (row : List ℕ) (s : ℕ) → (get_or row s 0 ≡ 0 → ⊥) → meant row s ≡ some (get_or row s 0 - 1)
+pub meant-some : (row : List ℕ) (s u : ℕ) → get_or row s 0 ≡ u + 1 → meant row s ≡ some u
 unfolding meant
-meant-some row s e = simp (ne_eqb (get_or row s 0) 0 e)
+meant-some row s u e =
+    let less : get_or row s 0 - 1 ≡ u = omega arith in
+    simp (ne_eqb (get_or row s 0) 0 (λ z. omega arith)) (ap {B = Option ℕ} some less)
 
 -- ---- the two ways
 module _ (w : List ℕ) (m a : ℕ) (f to : Tree) (P : Pool) (T : Source w m a f to P) where
@@ -232,14 +234,13 @@ module _ (w row : List ℕ) (a : ℕ) (a≢ : a ≡ 0 → ⊥) (alone : at w a 2
       (λ p s k z. means_none t y s (erase k) (erase to) (R.same s ∙ meant-none row s (subst (λ (i : ℕ). get_or row i 0 ≡ 0) z e))) f T.source)
 
   -- with one it is grown
-  pub grown_grows : (get_or row (at w a 0) 0 ≡ 0 → ⊥) → (v₁ : List ℕ) (p : ℕ) → Takes w p v₁ → (v : List ℕ) →
-      Joins (rooted v₁ p (get_or row (at w a 0) 0 - 1) a) 0 1 (at (rooted v₁ p (get_or row (at w a 0) 0 - 1) a) 0 1) p v → Grows w row 0 a v
-  grown_grows e v₁ p K v J m t y f to P R T =
+  pub grown_grows : (u : ℕ) → get_or row (at w a 0) 0 ≡ u + 1 → (v₁ : List ℕ) (p : ℕ) → Takes w p v₁ → (v : List ℕ) →
+      Joins (rooted v₁ p u a) 0 1 (at (rooted v₁ p u a) 0 1) p v → Grows w row 0 a v
+  grown_grows u e v₁ p K v J m t y f to P R T =
       let k = K P (source_left w m a f to P T) in
-      let u = get_or row (at w a 0) 0 - 1 in
       grown w m a f to P T v₁ p u k t y
       (only (λ g. join (erase to) (tree u (erase g) nothing) ≡ grow t y 0 (erase g) (erase to))
-      (λ p s k z. means_some t y s (erase k) (erase to) u (R.same s ∙ subst (λ (i : ℕ). meant row i ≡ some u) z (meant-some row (at w a 0) e))) f T.source)
+      (λ p s k z. means_some t y s (erase k) (erase to) u (R.same s ∙ subst (λ (i : ℕ). meant row i ≡ some u) z (meant-some row (at w a 0) u e))) f T.source)
       v (J to (node p u f nil) k.left (sprout_two w m a f to P T v₁ p u k))
 
 -- what the code asks on the way

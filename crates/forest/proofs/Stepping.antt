@@ -8,47 +8,40 @@ use Prim.Native.Nat.{ℕ, suc, ◌+◌, ◌*◌, ◌≤◌, ◌<◌}
 use native.Mathlib.Omega.{arith}
 use native.Mathlib.Decide.{ℕ_discrete}
 use borrow.Author.Tests.{eq-eqb, ne_eqb}
-use lib.Dec.{eqb}
 use lib.ListN.{length, get_or, set, length-set}
-use lib.Seq.{get_or-set_same, get_or-set_other}
-use Rattle.lines.specs.Limits.{max_terms, max_nonterms, max_states}
+use lib.Seq.{get_or-set_other}
+use Rattle.std.proofs.lemmas.Grind.{get_or-set_at}
 use Rattle.theory.proofs.Basics.{get_d_cases}
 use Rattle.theory.specs.Grammar.{Rule, Nonterm}
 use Rattle.theory.specs.Table.{Table, count, rule_at, accept_rule, has}
 use Rattle.theory.proofs.Table.Facts.{facts}
 use Rattle.theory.specs.Forest as Of
 use Rattle.theory.specs.Forest.{Forest, nothing, tree, Phase, Chosen, short, reduced}
-use Rattle.forest.specs.Rows.{Row}
+use Rattle.forest.specs.Rows.{row_of, Row}
 use Rattle.forest.specs.Held as Held
-use Rattle.forest.specs.Held.{Becomes, after, ReducesOne}
+use Rattle.forest.specs.Held.{Becomes, after, SomeReduce, ReducesOne}
 use Rattle.forest.specs.Phases.{max_symbols, Marks, CanStep, SomeStep, Steps}
 use Rattle.forest.proofs.Leaves.{after-reduced}
-use Rattle.forest.proofs.Lookups.{row_of, row_length, go_row, row_end, row_small}
+use Rattle.forest.proofs.Lookups.{row_length, go_row, row_end}
 
 -- ---- marks
 
 -- one more mark
-marks-set : (marks M : List ℕ) (A : ℕ) → A < max_symbols → Marks marks M → Marks (set marks A 1) (A ∷ M)
+marks-set : (marks : List Bool) (M : List ℕ) (A : ℕ) → A < max_symbols → Marks marks M → Marks (set marks A true) (A ∷ M)
 unfolding has
-marks-set marks M A h K = record { each = λ a l. go a l (ℕ_discrete a A); all = length-set marks A 1 ∙ K.all }
+marks-set marks M A h K = record { each = λ a l. go a l (ℕ_discrete a A); all = length-set marks A true ∙ K.all }
   where
-    go : (a : ℕ) → a < max_symbols → Dec (a ≡ A) → has (A ∷ M) a ≡ not (eqb (get_or (set marks A 1) a 0) 0)
+    go : (a : ℕ) → a < max_symbols → Dec (a ≡ A) → has (A ∷ M) a ≡ get_or (set marks A true) a false
     go a l (yes e) =
         let here : has (A ∷ M) a ≡ true = simp (eq-eqb A a (sym e)) in
-        let one = ap (λ (i : ℕ). get_or (set marks A 1) i 0) e ∙ get_or-set_same marks A 1 0 (omega (arith, K.all)) in
-        here ∙ sym (ap (λ (i : ℕ). not (eqb i 0)) one)
+        here ∙ sym (get_or-set_at marks A a true false e (omega (arith, K.all)))
     go a l (no n) =
         let there : has (A ∷ M) a ≡ has M a = simp (ne_eqb A a (λ z. n (sym z))) in
-        there ∙ K.each a l ∙ sym (ap (λ (i : ℕ). not (eqb i 0)) (get_or-set_other marks A a 1 0 (λ z. n (omega arith))))
-
--- a symbol is not marked where its mark is 0
-not-twice : (b c : Bool) → c ≡ not b → b ≡ not c
-not-twice true c e = sym (ap not e)
-not-twice false c e = sym (ap not e)
+        there ∙ K.each a l ∙ sym (get_or-set_other marks A a true false n)
 
 -- ---- a step
 
-module _ (go lens lefts marks : List ℕ) (m r C : ℕ) (t : Table) (p : Phase) (c : Chosen) (K : CanStep go lens lefts marks m r C t p c)
+module _ (go lens lefts : List ℕ) (marks : List Bool) (m r C : ℕ) (t : Table) (p : Phase) (c : Chosen) (K : CanStep go lens lefts marks m r C t p c)
     (left len : ℕ) (eleft : left ≡ get_or lefts r 0) (elen : len ≡ get_or lens r 0) where
   -- the chosen rule
   abbrev rule : Rule
@@ -76,17 +69,13 @@ module _ (go lens lefts marks : List ℕ) (m r C : ℕ) (t : Table) (p : Phase) 
   left-marked : left < max_symbols
   left-marked = omega (arith, left-low, K.known.table.ranges.term_count.1, K.known.table.ranges.nonterm_count.1)
 
-  -- its row lies within the go targets, and its ends are small
+  -- the rows of all symbols lie within the go targets
   rows_all : suc (t.grammar.terms + t.grammar.nonterms) * m ≤ length go
   rows_all = subst⁻¹ (λ (k : ℕ). suc (t.grammar.terms + t.grammar.nonterms) * k ≤ length go) K.known.table.states K.known.goes.all
 
-  -- its row lies within them
+  -- the left side's too
   left_end : left * m + m ≤ length go
   left_end = row_end m left (suc (t.grammar.terms + t.grammar.nonterms)) (length go) (omega (arith, left-low)) rows_all
-
-  -- its ends are small numbers
-  left-small : left * m + m ≤ suc (max_terms + max_nonterms) * max_states
-  left-small = row_small t K.known.table.ranges m left K.known.table.states left-low
 
   -- the part is the left side's row
   row : Row (row_of go m left) (count t) t left
@@ -112,60 +101,58 @@ module _ (go lens lefts marks : List ℕ) (m r C : ℕ) (t : Table) (p : Phase) 
   }
 
   -- what the reduction leaves is the theory's step
-  forest-is : after (row_of go m left) t left len (eqb (get_or marks left 0) 0) root c.others ≡ (reduced t p c).forest
+  forest-is : after (row_of go m left) t left len (not (get_or marks left false)) root c.others ≡ (reduced t p c).forest
   forest-is =
-      let free : eqb (get_or marks left 0) 0 ≡ not (has p.marked rule.left) = not-twice (eqb (get_or marks left 0) 0) (has p.marked rule.left)
-      (ap (λ (i : ℕ). has p.marked i) (sym left_is) ∙ K.marked.each left left-marked) in
+      let free : not (get_or marks left false) ≡ not (has p.marked rule.left) =
+      ap not (sym (K.marked.each left left-marked) ∙ ap (λ (i : ℕ). has p.marked i) left_is) in
       (λ i. after (row_of go m left) t (left_is i) (len_is i) (free i) root c.others)
       ∙ after-reduced (row_of go m left) (count t) t p c K.known.table.passes.fits
       (subst (λ (y : ℕ). Row (row_of go m left) (count t) t y) left_is row) row_len
 
   -- and so are the marks
-  marks-are : (is : Bool) (now : List ℕ) → is ≡ short len root → now ≡ cond is (set marks left 1) marks → Marks now (reduced t p c).marked
+  marks-are : (is : Bool) (now : List Bool) → is ≡ short len root → now ≡ cond is (set marks left true) marks → Marks now (reduced t p c).marked
   unfolding reduced
   marks-are is now e q = subst (λ (b : Bool). Marks now (cond b (rule.left ∷ p.marked) p.marked)) (e ∙ ap (λ (d : ℕ). short d root) len_is)
-      (subst⁻¹ (λ (l : List ℕ). Marks l (cond is (rule.left ∷ p.marked) p.marked)) q (by is))
+      (subst⁻¹ (λ (l : List Bool). Marks l (cond is (rule.left ∷ p.marked) p.marked)) q (by is))
     where
-      by : (b : Bool) → Marks (cond b (set marks left 1) marks) (cond b (rule.left ∷ p.marked) p.marked)
-      by true = subst (λ (y : ℕ). Marks (set marks left 1) (y ∷ p.marked)) left_is (marks-set marks p.marked left left-marked K.marked)
+      by : (b : Bool) → Marks (cond b (set marks left true) marks) (cond b (rule.left ∷ p.marked) p.marked)
+      by true = subst (λ (y : ℕ). Marks (set marks left true) (y ∷ p.marked)) left_is (marks-set marks p.marked left left-marked K.marked)
       by false = K.marked
 
 -- ---- what `step` asks of `reduce`, and what it leaves
 
-module _ (w go lens lefts marks : List ℕ) (m x r left len : ℕ) (eleft : left ≡ get_or lefts r 0) (elen : len ≡ get_or lens r 0) where
-  module _ (S : SomeStep w go lens lefts marks m x r) where
-    -- the left side has a mark, and its row lies within the go targets, at small numbers
-    pub step_mark : left < max_symbols
-    step_mark = left-marked go lens lefts marks m r S.C S.t S.p S.c S.can left len eleft elen
+module _ {w go lens lefts : List ℕ} {marks : List Bool} {m x r left len : ℕ} (S : SomeStep w go lens lefts marks m x r)
+    (eleft : left ≡ get_or lefts r 0) (elen : len ≡ get_or lens r 0) where
+  -- the left side has a mark
+  pub step_mark : left < max_symbols
+  step_mark = left-marked go lens lefts marks m r S.C S.t S.p S.c S.can left len eleft elen
 
-    -- its row lies within the go targets
-    pub step_end : left * m + m ≤ length go
-    step_end = left_end go lens lefts marks m r S.C S.t S.p S.c S.can left len eleft elen
+  -- its row lies within the go targets
+  pub step_end : left * m + m ≤ length go
+  step_end = left_end go lens lefts marks m r S.C S.t S.p S.c S.can left len eleft elen
 
-    -- its ends are small numbers
-    pub step_small : left * m + m ≤ suc (max_terms + max_nonterms) * max_states
-    step_small = left-small go lens lefts marks m r S.C S.t S.p S.c S.can left len eleft elen
+  module _ {row : List ℕ} (is-row : row ≡ row_of go m left) where
+    -- so `reduce` can be called
+    pub step_reduce : SomeReduce w row x
+    step_reduce = subst⁻¹ (λ (l : List ℕ). SomeReduce w l x) is-row (record {
+      C = S.C;
+      m = count S.t;
+      t = S.t;
+      y = left;
+      G = tree S.c.state S.c.kids nothing;
+      F = S.c.others;
+      split = S.split;
+      can = can_reduce go lens lefts marks m r S.C S.t S.p S.c S.can left len eleft elen;
+    })
 
-  -- so `reduce` can be called
-  pub step_reduce : SomeStep w go lens lefts marks m x r → Held.SomeReduce w (row_of go m left) x
-  step_reduce S = record {
-    C = S.C;
-    m = count S.t;
-    t = S.t;
-    y = left;
-    G = tree S.c.state S.c.kids nothing;
-    F = S.c.others;
-    split = S.split;
-    can = can_reduce go lens lefts marks m r S.C S.t S.p S.c S.can left len eleft elen;
-  }
-
-  -- what it leaves is the step
-  pub step_steps : (v now : List ℕ) (is : Bool) → ReducesOne w (row_of go m left) len x (eqb (get_or marks left 0) 0) v is →
-      now ≡ cond is (set marks left 1) marks → Steps w go lens lefts marks m x r v now
-  step_steps v now is R q C t p c S K =
-      let (e, B) = R C (count t) t left (tree c.state c.kids nothing) c.others S
-      (can_reduce go lens lefts marks m r C t p c K left len eleft elen) in
-      record {
-        becomes = subst (λ (F : Forest). Becomes w v C F) (forest-is go lens lefts marks m r C t p c K left len eleft elen) B;
-        marked = marks-are go lens lefts marks m r C t p c K left len eleft elen is now e q;
-      }
+    -- what it leaves is the step
+    pub step_steps : (v : List ℕ) (now : List Bool) (is : Bool) → ReducesOne w row len x (not (get_or marks left false)) v is →
+        now ≡ cond is (set marks left true) marks → Steps w go lens lefts marks m x r v now
+    step_steps v now is R q C t p c split K =
+        let R' = subst (λ (l : List ℕ). ReducesOne w l len x (not (get_or marks left false)) v is) is-row R in
+        let (e, B) = R' C (count t) t left (tree c.state c.kids nothing) c.others split
+        (can_reduce go lens lefts marks m r C t p c K left len eleft elen) in
+        record {
+          becomes = subst (λ (F : Forest). Becomes w v C F) (forest-is go lens lefts marks m r C t p c K left len eleft elen) B;
+          marked = marks-are go lens lefts marks m r C t p c K left len eleft elen is now e q;
+        }

@@ -6,7 +6,6 @@ use Prim.Native.Nat.{ℕ, suc, ◌+◌, ◌*◌, ◌≤◌}
 use native.Mathlib.Omega.{arith}
 use lib.Dec.{eqb}
 use lib.ListN.{length}
-use Rattle.lines.specs.Limits.{max_terms, max_nonterms, max_states}
 use Rattle.theory.specs.Table.{Table, count}
 use Rattle.theory.proofs.Table.Facts.{facts}
 use Rattle.theory.specs.Forest as Of
@@ -14,16 +13,17 @@ use Rattle.theory.specs.Forest.{Forest, nothing, tree, shift}
 use Rattle.theory.specs.Forest.Joins.{is_none}
 use Rattle.theory.proofs.Bound.{size-le}
 use Rattle.forest.specs.Words.{at}
-use Rattle.forest.specs.Held.{CanShift, SomeShift, Shifts}
+use Rattle.forest.specs.Rows.{row_of}
+use Rattle.forest.specs.Held.{Held, CanShift, SomeShift, Shifts}
 use Rattle.forest.specs.Phases.{CanPhase, SomePhase, Phased, Phases}
 use Rattle.forest.specs.Tokens.{CanTake, SomeTake, Taken, Takes}
 use Rattle.forest.specs.Enough.{reduces_keeps}
 use Rattle.forest.proofs.Holding.{beyond_then}
 use Rattle.forest.proofs.Reading.{held_none}
-use Rattle.forest.proofs.Lookups.{row_of, go_row, act_row, row_end, row_small}
+use Rattle.forest.proofs.Lookups.{go_row, act_row, row_end}
 
 module _ (acts go lens lefts : List ℕ) (m a C : ℕ) (t : Table) (F : Forest) (K : CanTake acts go lens lefts m a C t F) where
-  -- the token's rows lie within the look-ups, at small numbers
+  -- the token's rows lie within the look-ups: in the actions
   acts_end : a * m + m ≤ length acts
   acts_end = row_end m a t.grammar.terms (length acts) K.token
       (subst⁻¹ (λ (k : ℕ). t.grammar.terms * k ≤ length acts) K.table.states K.rows.act.all)
@@ -32,10 +32,6 @@ module _ (acts go lens lefts : List ℕ) (m a C : ℕ) (t : Table) (F : Forest) 
   go_end : a * m + m ≤ length go
   go_end = row_end m a (suc (t.grammar.terms + t.grammar.nonterms)) (length go) (omega (arith, K.token))
       (subst⁻¹ (λ (k : ℕ). suc (t.grammar.terms + t.grammar.nonterms) * k ≤ length go) K.table.states K.rows.goes.all)
-
-  -- at small numbers
-  small : a * m + m ≤ suc (max_terms + max_nonterms) * max_states
-  small = row_small t K.table.ranges m a K.table.states (omega (arith, K.token))
 
   -- what the phase asks
   can_phase : CanPhase (row_of acts m a) go lens lefts m C t a F
@@ -57,51 +53,53 @@ module _ (acts go lens lefts : List ℕ) (m a C : ℕ) (t : Table) (F : Forest) 
         room = omega (arith, K.room, k.within, size-le t (facts K.table.passes) R.end.forest k.inv.rising);
       }
 
-module _ (w acts go lens lefts : List ℕ) (m a : ℕ) where
-  module _ (S : SomeTake w acts go lens lefts m a) where
-    -- the token's row of actions lies within them
-    pub take_acts : a * m + m ≤ length acts
-    take_acts = acts_end acts go lens lefts m a S.C S.t S.F S.can
+module _ {w acts go lens lefts : List ℕ} {m a : ℕ} (S : SomeTake w acts go lens lefts m a) where
+  -- the token's row of actions lies within them
+  pub take_acts : a * m + m ≤ length acts
+  take_acts = acts_end acts go lens lefts m a S.C S.t S.F S.can
 
-    -- its row of go targets too
-    pub take_go : a * m + m ≤ length go
-    take_go = go_end acts go lens lefts m a S.C S.t S.F S.can
+  -- its row of go targets too
+  pub take_go : a * m + m ≤ length go
+  take_go = go_end acts go lens lefts m a S.C S.t S.F S.can
 
-    -- at small numbers
-    pub take_small : a * m + m ≤ suc (max_terms + max_nonterms) * max_states
-    take_small = small acts go lens lefts m a S.C S.t S.F S.can
-
+  module _ {act : List ℕ} (is-act : act ≡ row_of acts m a) where
     -- so the phase can be called
-    pub take_phase : SomePhase w (row_of acts m a) go lens lefts m
-    take_phase = record { C = S.C; t = S.t; a = a; F = S.F; held = S.held; can = can_phase acts go lens lefts m a S.C S.t S.F S.can }
+    pub take_phase : SomePhase w act go lens lefts m
+    take_phase = subst⁻¹ (λ (l : List ℕ). SomePhase w l go lens lefts m) is-act
+        (record { C = S.C; t = S.t; a = a; F = S.F; held = S.held; can = can_phase acts go lens lefts m a S.C S.t S.F S.can })
 
-    -- and the shift after it
-    pub take_shift : (v : List ℕ) (n : ℕ) → Phases w (row_of acts m a) go lens lefts m v n → SomeShift v (row_of go m a)
-    take_shift v n R =
-        let D = R S.C S.t a S.F S.held (can_phase acts go lens lefts m a S.C S.t S.F S.can) in
-        record {
-          C = S.C;
-          m = count S.t;
-          t = S.t;
-          y = a;
-          F = D.end.forest;
-          held = D.becomes.held;
-          can = can_shift acts go lens lefts m a S.C S.t S.F S.can w v n D;
-        }
+    module _ {v : List ℕ} {n : ℕ} (R : Phases w act go lens lefts m v n) {row : List ℕ} (is-row : row ≡ row_of go m a) where
+      -- what the phase left
+      left : (C : ℕ) (t : Table) (F : Forest) → Held w C F → CanTake acts go lens lefts m a C t F → Phased w v C t a F n
+      left C t F H K = subst (λ (l : List ℕ). Phases w l go lens lefts m v n) is-act R C t a F H (can_phase acts go lens lefts m a C t F K)
 
-  -- what `next` leaves
-  pub taken : (v u : List ℕ) (n x : ℕ) → Phases w (row_of acts m a) go lens lefts m v n → Shifts v (row_of go m a) u → x ≡ at u 0 1 →
-      Takes w acts go lens lefts m a u (eqb x 0) n
-  taken v u n x R S e C t F H K =
-      let D = R C t a F H (can_phase acts go lens lefts m a C t F K) in
-      let B = S C (count t) t a D.end.forest D.becomes.held (can_shift acts go lens lefts m a C t F K w v n D) in
-      record {
-        end = D.end;
-        reduces = D.reduces;
-        becomes = record { held = B.held; beyond = beyond_then w v u C D.becomes.beyond B.beyond };
-        told = ap (λ (i : ℕ). eqb i 0) e ∙ held_none B.held;
-        few = D.few;
-      }
+      -- the shift after it can be called
+      pub take_shift : SomeShift v row
+      take_shift =
+          let D = left S.C S.t S.F S.held S.can in
+          subst⁻¹ (λ (l : List ℕ). SomeShift v l) is-row (record {
+            C = S.C;
+            m = count S.t;
+            t = S.t;
+            y = a;
+            F = D.end.forest;
+            held = D.becomes.held;
+            can = can_shift acts go lens lefts m a S.C S.t S.F S.can w v n D;
+          })
+
+      -- what `next` leaves
+      pub taken : {u : List ℕ} {x : ℕ} → Shifts v row u → x ≡ at u 0 1 → Takes w acts go lens lefts m a u (eqb x 0) n
+      taken {u} {x} X e C t F H K =
+          let D = left C t F H K in
+          let B = subst (λ (l : List ℕ). Shifts v l u) is-row X C (count t) t a D.end.forest D.becomes.held
+          (can_shift acts go lens lefts m a C t F K w v n D) in
+          record {
+            end = D.end;
+            reduces = D.reduces;
+            becomes = record { held = B.held; beyond = beyond_then w v u C D.becomes.beyond B.beyond };
+            told = ap (λ (i : ℕ). eqb i 0) e ∙ held_none B.held;
+            few = D.few;
+          }
 
 -- ---- the tail
 

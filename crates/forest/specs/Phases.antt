@@ -1,5 +1,5 @@
 -- What a step and a reduce phase ask and leave, in the theory's words.
-use Rattle.std.specs.Prelude.{◌≡◌, not, List, ℕ, suc, ◌+◌, ◌*◌, ◌≤◌, ◌<◌, eqb, length, get_or}
+use Rattle.std.specs.Prelude.{◌≡◌, Bool, false, List, ℕ, suc, ◌+◌, ◌*◌, ◌≤◌, ◌<◌, length, get_or}
 use Rattle.lines.specs.Limits.{max_terms, max_nonterms, max_states, max_tail}
 use Rattle.theory.specs.Table.{Table, count, has}
 use Rattle.theory.specs.Forest as Of
@@ -24,15 +24,15 @@ pub record Known (go lens lefts : List ℕ) (m : ℕ) (t : Table) : Type 0 where
   pub goes : GoRows t go
   pub rules : RuleRows t lens lefts
 
--- The marks of the nonterminals to which a long reduction was made in the phase: one for each symbol, 0 for none.
-pub record Marks (marks marked : List ℕ) : Type 0 where
-  pub each : (a : ℕ) → a < max_symbols → has marked a ≡ not (eqb (get_or marks a 0) 0)
+-- The marks of the nonterminals to which a long reduction was made in the phase: whether it was, for each symbol.
+pub record Marks (marks : List Bool) (marked : List ℕ) : Type 0 where
+  pub each : (a : ℕ) → a < max_symbols → has marked a ≡ get_or marks a false
   pub all : length marks ≡ max_symbols
 
 -- ---- one step
 
 -- the chosen tree's rule is r, the marks are the phase's, and there are nodes enough
-pub record CanStep (go lens lefts marks : List ℕ) (m r C : ℕ) (t : Table) (p : Phase) (c : Chosen) : Type 0 where
+pub record CanStep (go lens lefts : List ℕ) (marks : List Bool) (m r C : ℕ) (t : Table) (p : Phase) (c : Chosen) : Type 0 where
   pub known : Known go lens lefts m t
   pub rule : r ≡ c.rule
   pub listed : r < length t.grammar.rules
@@ -42,7 +42,7 @@ pub record CanStep (go lens lefts marks : List ℕ) (m r C : ℕ) (t : Table) (p
   pub room : inner c.others + suc (Of.size c.kids) + 2 * count t ≤ C
 
 -- some tree at x and some forest can make a step so
-pub record SomeStep (w go lens lefts marks : List ℕ) (m x r : ℕ) : Type 0 where
+pub record SomeStep (w go lens lefts : List ℕ) (marks : List Bool) (m x r : ℕ) : Type 0 where
   pub C : ℕ
   pub t : Table
   pub p : Phase
@@ -51,12 +51,12 @@ pub record SomeStep (w go lens lefts marks : List ℕ) (m x r : ℕ) : Type 0 wh
   pub can : CanStep go lens lefts marks m r C t p c
 
 -- the room holds the forest after the step, and the marks are those after it
-pub record Stepped (w v after : List ℕ) (C : ℕ) (t : Table) (p : Phase) (c : Chosen) : Type 0 where
+pub record Stepped (w v : List ℕ) (after : List Bool) (C : ℕ) (t : Table) (p : Phase) (c : Chosen) : Type 0 where
   pub becomes : Becomes w v C (reduced t p c).forest
   pub marked : Marks after (reduced t p c).marked
 
 -- whatever tree and forest the room held
-abbrev pub Steps : List ℕ → List ℕ → List ℕ → List ℕ → List ℕ → ℕ → ℕ → ℕ → List ℕ → List ℕ → Type 0
+abbrev pub Steps : List ℕ → List ℕ → List ℕ → List ℕ → List Bool → ℕ → ℕ → ℕ → List ℕ → List Bool → Type 0
 Steps w go lens lefts marks m x r v after =
     (C : ℕ) (t : Table) (p : Phase) (c : Chosen) → Split w C x (tree c.state c.kids nothing) c.others →
     CanStep go lens lefts marks m r C t p c → Stepped w v after C t p c

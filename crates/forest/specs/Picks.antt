@@ -1,11 +1,12 @@
 -- What is asked of a list of trees and told of it: the lowest root that reduces.
-use Rattle.std.specs.Prelude.{◌≡◌, List, ℕ, ◌+◌, ◌≤◌, ◌<◌, length}
+use Rattle.std.specs.Prelude.{◌≡◌, List, ℕ, ◌+◌, ◌≤◌, ◌<◌, suc, length, get_or, Option, Some, None}
 use Rattle.std.proofs.Math.Option.{none, some}
 use Rattle.theory.specs.Table.{Table, reduce_on}
 use Rattle.theory.specs.Forest.{Forest, nothing, tree, choose, Rising}
 use Rattle.forest.specs.Words.{stride, at, Inside, max_words}
 use Rattle.forest.specs.Trees.{Tree, erase, weigh, occ, size, Rep}
 use Rattle.forest.specs.Rows.{Acts}
+use Rattle.forest.specs.declared.trees.Pick.{Pick}
 
 -- word j of node d leads to f
 pub record Linked (w : List ℕ) (d j m : ℕ) (f : Tree) : Type 0 where
@@ -52,3 +53,8 @@ pub record Picked (w v : List ℕ) (d j r : ℕ) (t : Table) (y : ℕ) (f : Tree
 -- whatever trees the words held, whatever table the row is of
 abbrev pub Picks : List ℕ → List ℕ → ℕ → ℕ → List ℕ → ℕ → Type 0
 Picks w acts d j v r = (m : ℕ) (t : Table) (y : ℕ) (f : Tree) → Acts acts m t y → Linked w d j m f → Picked w v d j r t y f
+
+-- Node 0's list of roots: none of them reduces, or the root that was picked reduces by the rule that its state's entry means.
+abbrev pub PicksOne : List ℕ → List ℕ → List ℕ → Option Pick → Type 0
+PicksOne w acts v None = Picks w acts 0 1 v 0
+PicksOne w acts v (Some p) = Picks w acts 0 1 v p.root × (0 < p.root) × (get_or acts (at v p.root 0) 0 ≡ suc p.rule)

@@ -1,8 +1,12 @@
 -- The look-ups of a table: rows of numbers, one for each state, built once. An entry is 0 for none, else one more than what is meant.
-use Rattle.std.specs.Prelude.{◌≡◌, cond, List, ℕ, suc, ◌+◌, ◌*◌, ◌-◌, ◌≤◌, ◌<◌, eqb, length, get_or}
+use Rattle.std.specs.Prelude.{◌≡◌, cond, List, ℕ, suc, ◌+◌, ◌*◌, ◌-◌, ◌≤◌, ◌<◌, eqb, length, get_or, take, drop}
 use Rattle.std.proofs.Math.Option.{Option, none, some}
 use Rattle.lines.specs.Ranges.{InRange}
 use Rattle.theory.specs.Table.{Table, Passes, count, goto, reduce_on, rule_at}
+
+-- row k of rows of m entries each: the part from k · m to k · m + m
+abbrev pub row_of : List ℕ → ℕ → ℕ → List ℕ
+row_of rows m k = take (k * m + m - k * m) (drop (k * m) rows)
 
 -- what an entry means
 unfoldable pub meant : List ℕ → ℕ → Option ℕ

@@ -9,10 +9,11 @@ ghost use Rattle.forest.specs.Plants.{planted};
 ghost use Rattle.forest.specs.Prints.{SomePrint, Prints, RoomFor, shown, JoinsInto};
 
 use crate::Forest;
+use crate::rows::meant;
 use crate::steps::settle;
 use crate::store::take;
 use crate::trees::{join, lay};
-use crate::words::{ASIDE, CHILD, NEXT, ROOTS, STATE, entry, get};
+use crate::words::{ASIDE, CHILD, NEXT, ROOTS, STATE, get};
 use lines::Shape;
 
 // The words of a room for two forests of the most entries, a node for each.
@@ -27,23 +28,21 @@ fn hang(room: &mut [u32], x: usize)
     join(room, 0, ASIDE, x, y);
 }
 
-// The forest of the paths is made and set aside: node 0's word ASIDE led to none. Each path grows from its lowest state up.
+// The forest of the paths is made and set aside: node 0's word ASIDE led to none. Each path grows from its lowest state
+// up.
 fn plant(room: &mut [u32], paths: &[u16])
     requires { SomePlenty room.old paths.now × (at room.old 0 2 ≡ 0) }
     ensures { Asides room.old paths.now (planted paths.now) (length paths.now) room.new }
 {
     let mut x = 0;
-    let mut i = paths.len();
-    while 0 < i {
-        i -= 1;
-        let u = entry(paths[i]);
-        if u == 0 {
+    for i in (0..paths.len()).rev() {
+        if let Some(state) = meant(paths[i]) {
+            let p = take(room);
+            lay(room, p, state, x);
+            x = p;
+        } else {
             hang(room, x);
             x = 0;
-        } else {
-            let p = take(room);
-            lay(room, p, u - 1, x);
-            x = p;
         }
     }
     hang(room, x);
@@ -87,8 +86,9 @@ fn merge(room: &mut [u32], first: &[u16], second: &[u16], out: &mut [usize])
     print(room, x, out, 0);
 }
 
-// The forests of two lists of paths are joined and the join is printed. Refused are lists with more entries than a tail has tokens, and a slice
-// with too few places for the print of as many nodes as there are entries.
+// The forests of two lists of paths are joined and the join is printed. Refused are lists with more entries than a tail
+// has tokens, and a slice with too few places for the print of as many nodes as there are entries.
+// There is one kind of refusal, so the answer is a bool.
 pub fn joined(first: &[u16], second: &[u16], out: &mut [usize]) -> bool
     ensures { JoinsInto first.now second.now out.old result out.new }
 {

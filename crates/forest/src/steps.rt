@@ -36,18 +36,15 @@ pub fn extend(room: &mut [u32], row: &[u16])
     settle(room);
 }
 
-// The chosen tree at p is reduced by a rule with `depth` symbols on its right side, whose left side's row is given. The answer is whether
-// the reduction is long; then the row's one-node trees are added, if `add`.
+// The chosen tree at p is reduced by a rule with `depth` symbols on its right side, whose left side's row is given. The
+// answer is whether the reduction is long; then the row's one-node trees are added, if `add`.
 pub fn reduce(room: &mut [u32], row: &[u16], depth: usize, p: usize, add: bool) -> bool
     requires { SomeReduce room.old row.now p }
     ensures { ReducesOne room.old row.now depth p add room.new result }
 {
-    if grow(room, row, depth, p) {
-        if add {
-            extend(room, row);
-            return true;
-        }
-        return true;
+    let long = grow(room, row, depth, p);
+    if long && add {
+        extend(room, row);
     }
-    false
+    long
 }

@@ -1,6 +1,6 @@
-// The free store: nodes that no tree of the forest has. Free trees are linked through their roots, from node 0's word FREE on;
-// the nodes from node 0's word UNUSED on were never used. A tree is freed in one go, whatever its size: its nodes are taken
-// apart when they are taken.
+// The free store: nodes that no tree of the forest has. Free trees are linked through their roots, from node 0's word
+// FREE on; the nodes from node 0's word UNUSED on were never used. A tree is freed in one go, whatever its size: its
+// nodes are taken apart when they are taken.
 ghost use Rattle.std.specs.Prelude.{◌≡◌, ◌≤◌, length};
 ghost use Rattle.forest.specs.Words.{Inside, max_words};
 ghost use Rattle.forest.specs.Pools.{pushed, dropped};

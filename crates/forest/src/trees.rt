@@ -1,17 +1,20 @@
-// Trees of the room, by their places: merged, grown from, chosen from, and made of one node each.
-// A list of trees is the place of its first root; the trees beside it follow by NEXT, in rising order of state.
+// Trees of the room, by their places: merged, grown from, chosen from, and made of one node each. A list of trees is
+// the place of its first root; the trees beside it follow by NEXT, in rising order of state. A loop over a list goes
+// from link to link, as far as the link that is 0: there is no index to count.
 // Calls go as deep as trees are, and never along trees side by side.
-ghost use Rattle.std.specs.Prelude.{◌≡◌, ◌||◌, ◌≤◌, ◌<◌, length};
+ghost use Rattle.std.specs.Prelude.{◌≡◌, ◌≤◌, ◌<◌, length};
 ghost use Rattle.forest.specs.Words.{at, Inside, max_words};
 ghost use Rattle.forest.specs.Joins.{SomeTwo, Joins, SomePair, Meets, Passed};
 ghost use Rattle.forest.specs.Grows.{SomeSource, Grows, GrowsTold, rooted};
-ghost use Rattle.forest.specs.Picks.{SomeLinked, Picks};
+ghost use Rattle.forest.specs.Picks.{SomeLinked, PicksOne};
 ghost use Rattle.forest.specs.Longs.{SomePlenty, Spreads};
 
+use crate::rows::meant;
 use crate::store::{drop_one, push, take};
-use crate::words::{ASIDE, CHILD, NEXT, ROOTS, STATE, entry, get, put};
+use crate::words::{ASIDE, CHILD, NEXT, ROOTS, STATE, get, put};
 
-// The lists of trees at x and y are merged, and the word of node `to` leads to the result. What drops out goes on the free list.
+// The lists of trees at x and y are merged, and the word of node `to` leads to the result. What drops out goes on the
+// free list.
 #[cycle(join_meet)]
 pub fn join(room: &mut [u32], to: usize, word: usize, x: usize, y: usize)
     requires { SomeTwo room.old to word x y }
@@ -52,8 +55,8 @@ pub fn join(room: &mut [u32], to: usize, word: usize, x: usize, y: usize)
     put(room, d, j, b);
 }
 
-// Nodes a and b of equal state become one: a's children are merged with b's; if either has none, there are none. Node b goes on the
-// free list, and the children that are not kept.
+// Nodes a and b of equal state become one: a's children are merged with b's; if either has none, there are none. Node b
+// goes on the free list, and the children that are not kept.
 #[cycle(join_meet)]
 fn meet(room: &mut [u32], a: usize, b: usize)
     requires { SomePair room.old a b }
@@ -87,26 +90,22 @@ fn place_of(room: &[u32], p: usize, s: usize) -> Place
     requires { SomeTwo room.now 0 1 (at room.now 0 1) p × (0 < p) × (at room.now p 0 ≡ s) }
     ensures { Passed room.now p result.node result.word result.rest }
 {
-    let mut d = 0;
-    let mut j = ROOTS;
-    let mut a = get(room, 0, ROOTS);
-    while a != 0 {
-        if s <= get(room, a, STATE) {
-            return Place {
-                node: d,
-                word: j,
-                rest: a,
-            };
+    let mut place = Place {
+        node: 0,
+        word: ROOTS,
+        rest: get(room, 0, ROOTS),
+    };
+    while place.rest != 0 {
+        if s <= get(room, place.rest, STATE) {
+            return place;
         }
-        d = a;
-        j = NEXT;
-        a = get(room, a, NEXT);
+        place = Place {
+            node: place.rest,
+            word: NEXT,
+            rest: get(room, place.rest, NEXT),
+        };
     }
-    Place {
-        node: d,
-        word: j,
-        rest: a,
-    }
+    place
 }
 
 // The tree at p, of state s, is merged into the forest.
@@ -132,52 +131,42 @@ pub fn lay(room: &mut [u32], p: usize, s: usize, x: usize)
     put(room, p, NEXT, 0);
 }
 
-// The tree at a, which has none beside it, gets the row's target for its state as new root and is merged into the forest; if there is no
-// target, the tree goes.
+// The tree at a, which has none beside it, gets the row's target for its state as new root and is merged into the
+// forest; if there is no target, the tree goes.
 fn sprout(room: &mut [u32], row: &[u16], a: usize)
     requires { SomeSource room.old row.now a × (0 < a) × (at room.old a 2 ≡ 0) }
     ensures { Grows room.old row.now 0 a room.new }
 {
     let s = get(room, a, STATE);
-    let u = entry(row[s]);
-    if u == 0 {
+    let Some(target) = meant(row[s]) else {
         push(room, a);
         return;
-    }
+    };
     let p = take(room);
-    lay(room, p, u - 1, a);
-    insert(room, p, u - 1);
+    lay(room, p, target, a);
+    insert(room, p, target);
 }
 
-// Whether one of the two holds.
-fn either(a: bool, b: bool) -> bool
-    ensures { result ≡ (a || b) }
-{
-    if a { true } else { b }
-}
-
-// The trees whose roots are `depth` nodes below the list at x get new roots and are merged into the forest; the nodes above them go. The
-// answer is whether some path down from the list ended above that depth. The row is lent on as a part of itself, all of it: so no copy of
-// the reference is made, which is slow.
+// The trees whose roots are `depth` nodes below the list at x get new roots and are merged into the forest; the nodes
+// above them go. The answer is whether some path down from the list ended above that depth.
 pub fn grow(room: &mut [u32], row: &[u16], depth: usize, x: usize) -> bool
     requires { SomeSource room.old row.now x }
     ensures { GrowsTold room.old row.now depth x room.new result }
 {
-    let width = row.len();
     let mut long = false;
     let mut a = x;
     while a != 0 {
         let n = get(room, a, NEXT);
         if depth == 0 {
             put(room, a, NEXT, 0);
-            sprout(room, &row[..width], a);
+            sprout(room, row, a);
         } else {
             let c = get(room, a, CHILD);
             drop_one(room, a);
             if c == 0 {
                 long = true;
             } else {
-                long = either(long, grow(room, &row[..width], depth - 1, c));
+                long |= grow(room, row, depth - 1, c);
             }
         }
         a = n;
@@ -185,10 +174,17 @@ pub fn grow(room: &mut [u32], row: &[u16], depth: usize, x: usize) -> bool
     long
 }
 
-// The lowest root that reduces, taken out of the forest; 0 if none does.
-pub fn choose(room: &mut [u32], acts: &[u16]) -> usize
+// A root that reduces, and the rule by which it does.
+#[derive(Clone, Copy)]
+pub struct Pick {
+    pub root: usize,
+    pub rule: usize,
+}
+
+// The lowest root that reduces, taken out of the forest, if there is one.
+pub fn choose(room: &mut [u32], acts: &[u16]) -> Option<Pick>
     requires { SomeLinked room.old acts.now 0 1 }
-    ensures { Picks room.old acts.now 0 1 room.new result }
+    ensures { PicksOne room.old acts.now room.new result }
 {
     let mut d = 0;
     let mut j = ROOTS;
@@ -196,31 +192,28 @@ pub fn choose(room: &mut [u32], acts: &[u16]) -> usize
     while a != 0 {
         let s = get(room, a, STATE);
         let n = get(room, a, NEXT);
-        let r = entry(acts[s]);
-        if r != 0 {
+        if let Some(rule) = meant(acts[s]) {
             put(room, d, j, n);
             put(room, a, NEXT, 0);
-            return a;
+            return Some(Pick { root: a, rule });
         }
         d = a;
         j = NEXT;
         a = n;
     }
-    0
+    None
 }
 
 // The one-node trees of the row's targets, merged, set aside: node 0's word ASIDE led to none.
+// By index: the invariant speaks of the place, and not of how many entries came.
 pub fn spread(room: &mut [u32], row: &[u16])
     requires { SomePlenty room.old row.now × (at room.old 0 2 ≡ 0) }
     ensures { Spreads room.old row.now 0 (length row.now) room.new }
 {
-    let mut i = row.len();
-    while 0 < i {
-        i -= 1;
-        let u = entry(row[i]);
-        if u != 0 {
+    for i in (0..row.len()).rev() {
+        if let Some(target) = meant(row[i]) {
             let p = take(room);
-            lay(room, p, u - 1, 0);
+            lay(room, p, target, 0);
             let r = get(room, 0, ASIDE);
             join(room, 0, ASIDE, p, r);
         }

@@ -5,7 +5,10 @@ ghost use Rattle.forest.specs.Words.{at, poke, Inside, max_words};
 
 use lines::Shape;
 
-// The words of a node: its state, its first child, the next node beside it, and the next free tree if it is the root of one.
+// Words are known by numbers, and 0 as a link says "none": the room is lent, as document 01 has it; no heap.
+//
+// The words of a node: its state, its first child, the next node beside it, and the next free tree if it is the root of
+// one.
 pub const STATE: usize = 0;
 
 pub const CHILD: usize = 1;
@@ -14,8 +17,8 @@ pub const NEXT: usize = 2;
 
 pub const LINK: usize = 3;
 
-// The words of node 0: the first node that was never used, the first root, the first of some trees set aside (none between
-// two steps), and the first free tree.
+// The words of node 0: the first node that was never used, the first root, the first of some trees set aside (none
+// between two steps), and the first free tree.
 pub const UNUSED: usize = 0;
 
 pub const ROOTS: usize = 1;
@@ -24,26 +27,12 @@ pub const ASIDE: usize = 2;
 
 pub const FREE: usize = 3;
 
-// A word as a number.
-pub fn wide(x: u32) -> usize
-    ensures { (result ≡ x) × (result < 4294967296) }
-{
-    x as usize
-}
-
-// An entry of a row as a number.
-pub fn entry(x: u16) -> usize
-    ensures { (result ≡ x) × (result < 65536) }
-{
-    x as usize
-}
-
 // Word i of node x.
 pub fn get(room: &[u32], x: usize, i: usize) -> usize
     requires { (i < 4) × Inside room.now x × (length room.now ≤ max_words) }
     ensures { (result ≡ at room.now x i) × (result < 4294967296) }
 {
-    wide(room[Shape::STRIDE * x + i])
+    room[Shape::STRIDE * x + i] as usize
 }
 
 // Word i of node x becomes v.

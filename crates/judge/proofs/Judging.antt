@@ -1,5 +1,5 @@
 -- From what each function finds to the relation: the refusals one by one, and the forest's judgement with the room cleared.
-use Rattle.std.specs.Prelude.{Ok, Err}
+use Rattle.std.specs.Prelude.{Option, Some, None, Ok, Err}
 use Rattle.table.specs.declared.Fault.{Fault}
 use mathlib.Core.Path.{◌≡◌, ◌∙◌, refl, sym, ap, subst}
 use mathlib.Core.List.{List, ◌++◌}
@@ -44,10 +44,10 @@ no_pass (Err (Fault.Ring v)) h e = omega arith
 no_pass (Err (Fault.Broken k s)) h e = omega arith
 
 -- what the check refuses
-pub check_into : (ns tail room : List ℕ) (c : Check) (r : Judgement) → Checks ns c → ((m : ℕ) → c ≡ Ok m → ⊥) →
-    r ≡ handed c → JudgesInto ns tail room r room
-check_into ns tail room c r h o e =
-    refused_into ns tail room (handed c) r e (JudgesUpTo.refused c h (no_pass c o)) (refused_high c (no_pass c o))
+pub fault_into : {ns : List ℕ} (tail room : List ℕ) (f : Fault) {r : Judgement} → Checks ns (Err f) → r ≡ handed (Err f) → JudgesInto ns tail room r room
+fault_into {ns} tail room f {r} h e =
+    let o = no_pass (Err f) (λ m z. cc) in
+    refused_into ns tail room (handed (Err f)) r e (JudgesUpTo.refused (Err f) h o) (refused_high (Err f) o)
 
 -- ---- a table that passes
 
@@ -68,30 +68,30 @@ words_small {m = m} tail P few =
     let c = g.its_numbers.in_range.state_count in
     words_most m (length tail) (omega arith) few
 
-module _ (ns tail room : List ℕ) (m : ℕ) (P : Checks ns (Ok m)) where
+module _ {ns : List ℕ} (tail room : List ℕ) {m : ℕ} (P : Checks ns (Ok m)) where
   -- too many tokens
-  pub over_into : (r : Judgement) → max_tail < length tail → r ≡ refusal 30 max_tail → JudgesInto ns tail room r room
-  over_into r h e = let (t, g, s) = passing P in refused_into ns tail room (refusal 30 max_tail) r e (JudgesUpTo.over t g h) (omega arith)
+  pub over_into : {r : Judgement} → max_tail < length tail → r ≡ refusal 30 max_tail → JudgesInto ns tail room r room
+  over_into {r} h e = let (t, g, s) = passing P in refused_into ns tail room (refusal 30 max_tail) r e (JudgesUpTo.over t g h) (omega arith)
 
-  module _ (few : length tail ≤ max_tail) (terms i : ℕ) (second : terms ≡ get_or ns 1 0) (F : FirstNot terms tail i) where
+  module _ (few : length tail ≤ max_tail) {terms : ℕ} (second : terms ≡ get_or ns 1 0) where
     -- what was searched for, with the table's count of kinds
-    by_table : {t : Table} → Good ns t → FirstNot t.grammar.terms tail i
-    by_table g = subst (λ (x : ℕ). FirstNot x tail i) (second ∙ terms-at g.its_numbers) F
+    by_table : {t : Table} (found : Option ℕ) → Good ns t → FirstNot terms tail found → FirstNot t.grammar.terms tail found
+    by_table found g F = subst (λ (x : ℕ). FirstNot x tail found) (second ∙ terms-at g.its_numbers) F
 
     -- a token not below T
-    pub strange_into : (r : Judgement) → i < length tail → r ≡ refusal 31 i → JudgesInto ns tail room r room
-    strange_into r h e =
+    pub strange_into : (i : ℕ) → FirstNot terms tail (Some i) → {r : Judgement} → r ≡ refusal 31 i → JudgesInto ns tail room r room
+    strange_into i F {r} e =
         let (t, g, s) = passing P in
-        refused_into ns tail room (refusal 31 i) r e (JudgesUpTo.strange t i g few (one_found t.grammar tail i (by_table g) h)) (omega arith)
+        refused_into ns tail room (refusal 31 i) r e (JudgesUpTo.strange t i g few (one_found t.grammar tail i (by_table (Some i) g F))) (omega arith)
 
-    module _ (all : length tail ≤ i) where
+    module _ (all : FirstNot terms tail None) where
       -- too little room
-      pub no_room_into : (r : Judgement) → length room < words m (length tail) → r ≡ refusal 32 (words m (length tail)) → JudgesInto ns tail room r room
-      no_room_into r h e =
+      pub no_room_into : {r : Judgement} → length room < words m (length tail) → r ≡ refusal 32 (words m (length tail)) → JudgesInto ns tail room r room
+      no_room_into {r} h e =
           let (t, g, s) = passing P in
           let w : words (count t) (length tail) ≡ words m (length tail) = ap (λ (x : ℕ). words x (length tail)) s in
           refused_into ns tail room (refusal 32 (words (count t) (length tail))) r (e ∙ ap (refusal 32) (sym w))
-          (JudgesUpTo.no_room t g few (none_found t.grammar tail i (by_table g) all) (omega arith)) (omega arith)
+          (JudgesUpTo.no_room t g few (none_found t.grammar tail (by_table None g all)) (omega arith)) (omega arith)
 
       -- the tail is in order
       pub some_ready : words m (length tail) ≤ length room → SomeReady ns tail (length room) m (words m (length tail))
@@ -103,7 +103,7 @@ module _ (ns tail room : List ℕ) (m : ℕ) (P : Checks ns (Ok m)) where
             states = sym s;
             ready = record {
               few = few;
-              tokens = none_found t.grammar tail i (by_table g) all;
+              tokens = none_found t.grammar tail (by_table None g all);
               enough = subst (λ (x : ℕ). words x (length tail) ≤ length room) (sym s) h;
             };
             called_for = refl;
@@ -111,23 +111,10 @@ module _ (ns tail room : List ℕ) (m : ℕ) (P : Checks ns (Ok m)) where
 
 -- ---- the run
 
-module _ (ns tail before : List ℕ) (m k : ℕ) (S : SomeReady ns tail (length before) m k) where
+module _ {ns tail : List ℕ} (before : List ℕ) {m k : ℕ} (S : SomeReady ns tail (length before) m k) where
   -- the words called for are there
   pub words_there : k ≤ length before
   words_there = subst (λ (x : ℕ). x ≤ length before) (sym (S.called_for ∙ ap (λ (x : ℕ). words x (length tail)) S.states)) S.ready.enough
-
-  -- the run gets a room of just those words
-  pub run_ready : SomeReady ns tail (length (take k before)) m (length (take k before))
-  run_ready =
-      let e = length-take-le k before words_there in
-      let w = S.called_for ∙ ap (λ (x : ℕ). words x (length tail)) S.states in
-      record {
-        t = S.t;
-        good = S.good;
-        states = S.states;
-        ready = record { few = S.ready.few; tokens = S.ready.tokens; enough = omega arith };
-        called_for = e ∙ S.called_for;
-      }
 
   -- a judgement that was told is no refusal
   told_low : {t : Table} {j : Judgement} → Says t tail j → j.answer < 2
@@ -140,14 +127,15 @@ module _ (ns tail before : List ℕ) (m k : ℕ) (S : SomeReady ns tail (length 
   told_judges (stop i n y) = JudgesUpTo.stop S.t i n S.good S.ready y
 
   -- with the words cleared it is the outcome, whatever the run left on them
-  pub ready_into : (j : Judgement) (part after : List ℕ) → length part ≡ length (take k before) → Said ns tail j →
-      after ≡ cleared k (part ++ drop k before) → JudgesInto ns tail before j after
-  ready_into j part after l y e =
+  pub ready_into : {j : Judgement} (part : List ℕ) {zeros : List ℕ} → length part ≡ length (take k before) → Said ns tail j → zeros ≡ replicate k 0 →
+      JudgesInto ns tail before j (zeros ++ drop k (part ++ drop k before))
+  ready_into {j} part {zeros} l y e =
       let z = y S.t S.good in
       record {
         judgement = told_judges z;
         kept = λ h. impossible (omega (arith, told_low z));
-        zeroed = λ h t g. e ∙ ap (λ (x : List ℕ). replicate k 0 ++ x) (drop_at part (drop k before) k (l ∙ length-take-le k before words_there)) ∙
+        zeroed = λ h t g. ap (λ (x : List ℕ). x ++ drop k (part ++ drop k before)) e ∙
+            ap (λ (x : List ℕ). replicate k 0 ++ x) (drop_at part (drop k before) k (l ∙ length-take-le k before words_there)) ∙
             ap (λ (x : ℕ). cleared x before) (S.called_for ∙ ap (λ (x : ℕ). words x (length tail)) S.states ∙
             ap (λ (u : Table). words (count u) (length tail)) (one_table S.good.its_numbers g.its_numbers));
       }

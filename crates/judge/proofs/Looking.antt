@@ -76,8 +76,8 @@ looked {ns} {a} {b} {acts = acts} {go = go} {lens = lens} {lefts = lefts} {t = t
     let h = says_room t.grammar.terms t.grammar.nonterms (count t) (length a) (length b) room in
     subst (λ (u : Table). LookUps u (length a) (length b) acts go lens lefts) (table_in_law f) (L.built (L.told ∙ e ∙ g ∙ h))
 
-module _ (ns tail w : List ℕ) (m : ℕ) (S : SomeReady ns tail (length w) m (length w)) where
-  module _ (a b c d acts go lens lefts : List ℕ) (r : Bool) (roomy : Roomy m (length a) (length b)) (L : Looked ns a b c d acts go lens lefts r) where
+module _ {ns tail : List ℕ} (w : List ℕ) {m : ℕ} (S : SomeReady ns tail (length w) m (length w)) where
+  module _ {a b c d acts go lens lefts : List ℕ} {r : Bool} (roomy : Roomy m (length a) (length b)) (L : Looked ns a b c d acts go lens lefts r) where
     -- there was room
     enough : Room S.t.grammar.terms S.t.grammar.nonterms (count S.t) (length a) (length b)
     enough = room_of S.good.its_numbers.in_range S.states roomy

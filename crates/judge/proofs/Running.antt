@@ -30,21 +30,21 @@ token_at (token l ts) (suc i) h = token_at ts i (omega arith)
 
 -- ---- the tokens after the first
 
-module _ (w₀ acts go lens lefts : List ℕ) (m : ℕ) (tail : List ℕ) where
-  -- after i tokens, whatever table has the look-ups
-  abbrev pub Going : List ℕ → ℕ → ℕ → Type 0
-  Going w i steps = (t : Table) → CanGoOn w₀ acts go lens lefts m tail t → Along (nodes m (length tail)) t w tail i steps
+-- after i tokens, whatever table has the look-ups
+pub record Going (w₀ acts go lens lefts : List ℕ) (m : ℕ) (tail w : List ℕ) (i steps : ℕ) : Type 0 where
+  pub along : (t : Table) → CanGoOn w₀ acts go lens lefts m tail t → Along (nodes m (length tail)) t w tail i steps
 
-  module _ (w : List ℕ) (i steps : ℕ) (G : Going w i steps) (inside : i < length tail) (a : ℕ) (is : a ≡ get_or tail i 0) where
+module _ {w₀ acts go lens lefts : List ℕ} {m : ℕ} {tail w : List ℕ} {i steps : ℕ} (G : Going w₀ acts go lens lefts m tail w i steps) where
+  module _ (inside : i < length tail) {a : ℕ} (is : a ≡ get_or tail i 0) where
     -- the tail from its token i on
     from_here : a ∷ drop (suc i) tail ≡ drop i tail
     from_here = ap (λ (x : ℕ). x ∷ drop (suc i) tail) is ∙ sym (drop-cons tail i 0 inside)
 
     -- the next token may be taken
     can_take : (t : Table) (K : CanGoOn w₀ acts go lens lefts m tail t) →
-        CanTake acts go lens lefts m a (nodes m (length tail)) t (G t K).F
+        CanTake acts go lens lefts m a (nodes m (length tail)) t (G.along t K).F
     can_take t K =
-        let A = G t K in
+        let A = G.along t K in
         let e : length tail - i ≡ suc (length tail - suc i) = omega arith in
         record {
           table = K.run.table;
@@ -60,35 +60,35 @@ module _ (w₀ acts go lens lefts : List ℕ) (m : ℕ) (tail : List ℕ) where
     go_take S = record {
       C = nodes m (length tail);
       t = S.t;
-      F = (G S.t S.can).F;
-      held = (G S.t S.can).held;
+      F = (G.along S.t S.can).F;
+      held = (G.along S.t S.can).held;
       can = can_take S.t S.can;
     }
 
-    module _ (v : List ℕ) (none : Bool) (n : ℕ) (taken : Of.Takes w acts go lens lefts m a v none n) where
+    module _ {v : List ℕ} {none : Bool} {n : ℕ} (taken : Of.Takes w acts go lens lefts m a v none n) where
       -- what the token left
       left : (t : Table) (K : CanGoOn w₀ acts go lens lefts m tail t) →
-          Taken w v (nodes m (length tail)) t a (G t K).F none n
-      left t K = taken (nodes m (length tail)) t (G t K).F (G t K).held (can_take t K)
+          Taken w v (nodes m (length tail)) t a (G.along t K).F none n
+      left t K = taken (nodes m (length tail)) t (G.along t K).F (G.along t K).held (can_take t K)
 
       -- the steps stay few
       pub go_few : SomeGoOn w₀ acts go lens lefts m tail → steps + n ≤ suc i * most_steps
-      go_few S = omega (arith, (G S.t S.can).few, (left S.t S.can).few)
+      go_few S = omega (arith, (G.along S.t S.can).few, (left S.t S.can).few)
 
       -- no tree is left: the tail stops at the token
       pub go_stop : none ≡ true → (t : Table) → CanGoOn w₀ acts go lens lefts m tail t →
           Says t tail (record { answer = 1; value = i; steps = steps + n })
       go_stop e t K =
-          let A = G t K in
+          let A = G.along t K in
           let x = taken_stop (left t K) e (drop (suc i) tail) in
           let y = A.rest false 0 n (subst (λ (l : List ℕ). Takes t A.F l false 0 n) from_here x) in
           let z : i + 0 ≡ i = omega arith in
           stop i (steps + n) (subst (λ (k : ℕ). Judged t tail false k (steps + n)) z y)
 
-      -- a tree is left: the run goes on with the next token
-      pub go_again : none ≡ false → Going v (i + 1) (steps + n)
-      go_again e t K =
-          let A = G t K in
+      -- a tree is left: for each table the next token may come
+      go_along : none ≡ false → (t : Table) → CanGoOn w₀ acts go lens lefts m tail t → Along (nodes m (length tail)) t v tail (i + 1) (steps + n)
+      go_along e t K =
+          let A = G.along t K in
           let T = left t K in
           let passes = K.run.table.passes in
           let next = taken_next t passes T.reduces A.before in
@@ -112,11 +112,15 @@ module _ (w₀ acts go lens lefts : List ℕ) (m : ℕ) (tail : List ℕ) where
               let q : steps + (n + j) ≡ steps + n + j = omega arith in
               subst (λ (s : ℕ). Judged t tail b (i + 1 + k) s) q (subst (λ (l : ℕ). Judged t tail b l (steps + (n + j))) p y)
 
+      -- so the run goes on
+      pub go_again : none ≡ false → Going w₀ acts go lens lefts m tail v (i + 1) (steps + n)
+      go_again e = record { along = go_along e }
+
   -- all tokens are taken: the tail is a piece
-  pub go_piece : (w : List ℕ) (i steps : ℕ) → Going w i steps → i ≡ length tail → (t : Table) → CanGoOn w₀ acts go lens lefts m tail t →
+  pub go_piece : i ≡ length tail → (t : Table) → CanGoOn w₀ acts go lens lefts m tail t →
       Says t tail (record { answer = 0; value = length tail; steps = steps })
-  go_piece w i steps G e t K =
-      let A = G t K in
+  go_piece e t K =
+      let A = G.along t K in
       let d : [] ≡ drop i tail = sym (ap (λ (k : ℕ). drop k tail) e ∙ drop-length tail) in
       let y = A.rest true 0 0 (subst (λ (l : List ℕ). Takes t A.F l true 0 0) d all) in
       let p : i + 0 ≡ length tail = omega arith in
@@ -126,9 +130,9 @@ module _ (w₀ acts go lens lefts : List ℕ) (m : ℕ) (tail : List ℕ) where
 -- ---- the first token
 
 -- the empty tail is a piece
-pub run_empty : {t : Table} (tail : List ℕ) → length tail ≡ 0 → Says t tail (record { answer = 0; value = 0; steps = 0 })
-run_empty [] e = piece 0 Judged.empty
-run_empty (a ∷ w) e = impossible (omega arith)
+pub run_empty : {t : Table} (tail : List ℕ) → length tail < 1 → Says t tail (record { answer = 0; value = 0; steps = 0 })
+run_empty [] l = piece 0 Judged.empty
+run_empty (a ∷ w) l = impossible (omega arith)
 
 -- the first token's trees are none: the tail stops there
 starts_none : {t : Table} {a : ℕ} {w : List ℕ} (F : Forest) → long t a ≡ F → is_none F ≡ true → Judged t (a ∷ w) false 0 0
@@ -144,11 +148,11 @@ starts_some {t} {a} {w} (tree s b c) e h v k j x =
     let q : j ≡ 0 + j = omega arith in
     subst (λ (l : ℕ). Judged t (a ∷ w) v (1 + k) l) q (subst (λ (l : ℕ). Judged t (a ∷ w) v l j) p (runs e x))
 
-module _ (w acts go lens lefts : List ℕ) (m : ℕ) (tail : List ℕ) (some : 1 ≤ length tail) (a : ℕ) (is : a ≡ get_or tail 0 0) where
-  -- the tail is its first token and the later ones
-  whole : a ∷ drop 1 tail ≡ tail
-  whole = ap (λ (x : ℕ). x ∷ drop 1 tail) is ∙ sym (drop-cons tail 0 0 some)
+-- the tail is its first token and the later ones
+whole : {tail : List ℕ} {a : ℕ} → 1 ≤ length tail → a ≡ get_or tail 0 0 → a ∷ drop 1 tail ≡ tail
+whole {tail} some is = ap (λ (x : ℕ). x ∷ drop 1 tail) is ∙ sym (drop-cons tail 0 0 some)
 
+module _ {w acts go lens lefts : List ℕ} {m : ℕ} {tail : List ℕ} (some : 1 ≤ length tail) {a : ℕ} (is : a ≡ get_or tail 0 0) where
   -- the first token may start the forest
   can_start : (t : Table) → CanRun w acts go lens lefts m tail t → CanStart w go (nodes m (length tail)) m t a
   can_start t K =
@@ -169,14 +173,14 @@ module _ (w acts go lens lefts : List ℕ) (m : ℕ) (tail : List ℕ) (some : 1
   pub run_start : SomeRun w acts go lens lefts m tail → SomeStart w go m a
   run_start S = record { C = nodes m (length tail); t = S.t; can = can_start S.t S.can }
 
-  module _ (v : List ℕ) (none : Bool) (steps : ℕ) (starts : At.Starts w go m a v none steps) where
+  module _ {v : List ℕ} {none : Bool} {steps : ℕ} (starts : At.Starts w go m a v none steps) where
     -- what the first token left
     begun : (t : Table) → CanRun w acts go lens lefts m tail t → Started w v (nodes m (length tail)) t a none steps
     begun t K = starts (nodes m (length tail)) t (can_start t K)
 
     -- no tree: the tail stops at its first token
     pub run_stop : none ≡ true → (t : Table) → CanRun w acts go lens lefts m tail t → Says t tail (record { answer = 1; value = 0; steps = 0 })
-    run_stop e t K = stop 0 0 (subst (λ (x : List ℕ). Judged t x false 0 0) whole (starts_none (long t a) refl (sym (begun t K).told ∙ e)))
+    run_stop e t K = stop 0 0 (subst (λ (x : List ℕ). Judged t x false 0 0) (whole some is) (starts_none (long t a) refl (sym (begun t K).told ∙ e)))
 
     -- a tree: the run goes on with the later tokens
     pub run_on : none ≡ false → length v ≡ length w → (t : Table) → CanRun w acts go lens lefts m tail t → CanGoOn v acts go lens lefts m tail t
@@ -195,7 +199,7 @@ module _ (w acts go lens lefts : List ℕ) (m : ℕ) (tail : List ℕ) (some : 1
             before = (started_next t passes a kind).0;
             ahead = subst (λ (x : ℕ). Ahead (nodes x (length tail)) t (long t a) (length tail - 1)) (sym K.table.states)
                 (subst (λ (x : ℕ). Ahead (nodes (count t) x) t (long t a) (length tail - 1)) q r);
-            rest = λ b k j x. subst (λ (y : List ℕ). Judged t y b (1 + k) (0 + j)) whole
+            rest = λ b k j x. subst (λ (y : List ℕ). Judged t y b (1 + k) (0 + j)) (whole some is)
                 (starts_some (long t a) refl (sym S.told ∙ e) b k j x);
             few = omega arith;
           };

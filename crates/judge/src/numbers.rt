@@ -18,6 +18,7 @@ pub fn refusal(answer: usize, value: usize) -> Judgement
 }
 
 // A table's fault handed out as a judgement.
+#[tactic(auto, unfolding(table::specs::Check::numbers))]
 impl From<Fault> for Judgement {
     ghost use Rattle.std.specs.Prelude.{Err};
     ghost use Rattle.judge.specs.Judge.{handed};
@@ -36,6 +37,7 @@ impl From<Fault> for Judgement {
 }
 
 // The check's answer handed out as a judgement: of a table that passes the count of its states.
+#[tactic(auto, unfolding(table::specs::Check::numbers))]
 impl From<Result<usize, Fault>> for Judgement {
     ghost use Rattle.judge.specs.Judge.{handed};
 
@@ -50,6 +52,7 @@ impl From<Result<usize, Fault>> for Judgement {
 }
 
 // A sheet's refusal by the reader handed out as a judgement.
+#[tactic(auto, unfolding(sheet::specs::Reads::answer_of))]
 impl From<ReadError> for Judgement {
     ghost use Rattle.std.specs.Prelude.{Err};
     ghost use Rattle.judge.specs.Judge.{handed_read};

@@ -1,11 +1,11 @@
 // A tail that is in order, by a table that passes.
-ghost use Rattle.std.specs.Prelude.{length};
+ghost use Rattle.std.specs.Prelude.{◌≤◌, length};
 ghost use Rattle.judge.specs.Judge.Into.{JudgesInto};
 ghost use Rattle.judge.specs.Ready.{SomeReady, Roomy, Said};
 
 use crate::Judgement;
-use crate::room::clear;
 use crate::run::run;
+use forest::LookUps;
 use lines::Shape;
 use table::{ACTS, GOES, SYMBOLS, look_ups};
 
@@ -27,22 +27,32 @@ const MORE_ACTS: usize = Shape::MAX_TERMS * MORE;
 // Enough entries for symbols and so many states.
 const MORE_GOES: usize = SYMBOLS * MORE;
 
-// Builds the look-ups of the table and runs the forest over the tail, in a room of just the words that it calls for.
-fn run_with(
+// Builds the look-ups of the table, in arrays with so many entries, and runs the forest over the tail, in a room of
+// just the words that it calls for.
+fn run_sized<const ENTRIES: usize, const TARGETS: usize>(
     table: &[u16],
     tail: &[u16],
     room: &mut [u32],
     states: usize,
-    acts: &mut [u16],
-    go: &mut [u16],
 ) -> Judgement
-    requires { SomeReady table.now tail.now (length room.old) states (length room.old) × Roomy states (length acts.old) (length go.old) }
+    requires ready { SomeReady table.now tail.now (length room.old) states (length room.old) }
+    requires roomy { Roomy states ENTRIES TARGETS }
+    requires small { (ENTRIES ≤ ACTS) × (TARGETS ≤ GOES) }
     ensures { Said table.now tail.now result }
 {
+    let mut acts = [0u16; ENTRIES];
+    let mut go = [0u16; TARGETS];
     let mut lens = [0u16; Shape::MAX_RULES];
     let mut lefts = [0u16; Shape::MAX_RULES];
-    look_ups(table, acts, go, &mut lens, &mut lefts);
-    run(room, acts, go, &lens, &lefts, states, tail)
+    look_ups(table, &mut acts, &mut go, &mut lens, &mut lefts);
+    let rows = LookUps {
+        acts: &acts,
+        go: &go,
+        lens: &lens,
+        lefts: &lefts,
+        states,
+    };
+    run(room, &rows, tail)
 }
 
 // The same, with entries enough for the table's count of states.
@@ -51,21 +61,16 @@ fn run_table(table: &[u16], tail: &[u16], room: &mut [u32], states: usize) -> Ju
     ensures { Said table.now tail.now result }
 {
     if states <= FEW {
-        let mut acts = [0u16; FEW_ACTS];
-        let mut go = [0u16; FEW_GOES];
-        return run_with(table, tail, room, states, &mut acts, &mut go);
+        run_sized::<FEW_ACTS, FEW_GOES>(table, tail, room, states)
+    } else if states <= MORE {
+        run_sized::<MORE_ACTS, MORE_GOES>(table, tail, room, states)
+    } else {
+        run_sized::<ACTS, GOES>(table, tail, room, states)
     }
-    if states <= MORE {
-        let mut acts = [0u16; MORE_ACTS];
-        let mut go = [0u16; MORE_GOES];
-        return run_with(table, tail, room, states, &mut acts, &mut go);
-    }
-    let mut acts = [0u16; ACTS];
-    let mut go = [0u16; GOES];
-    run_with(table, tail, room, states, &mut acts, &mut go)
 }
 
-// The judgement of a tail that is in order: only the words that it calls for are lent to the run, and they are zero afterwards.
+// The judgement of a tail that is in order: only the words that it calls for are lent to the run, and they are zero
+// afterwards.
 pub(crate) fn judge_ready(
     table: &[u16],
     tail: &[u16],
@@ -77,6 +82,6 @@ pub(crate) fn judge_ready(
     ensures { JudgesInto table.now tail.now room.old result room.new }
 {
     let j = run_table(table, tail, &mut room[..words], states);
-    clear(room, words);
+    room[..words].fill(0);
     j
 }

@@ -2,66 +2,46 @@
 ghost use Rattle.judge.specs.Runs.{SomeRun, Runs, SomeGoOn, GoesOn};
 
 use crate::Judgement;
-use crate::tail::token;
-use forest::Forest;
+use forest::{Forest, LookUps};
 
 // The tokens after the first: the forest takes each in turn and stops at the one that empties it.
-fn go_on(
-    room: &mut [u32],
-    acts: &[u16],
-    go: &[u16],
-    lens: &[u16],
-    lefts: &[u16],
-    states: usize,
-    tail: &[u16],
-) -> Judgement
-    requires { SomeGoOn room.old acts.now go.now lens.now lefts.now states tail.now }
-    ensures { GoesOn room.old acts.now go.now lens.now lefts.now states tail.now result }
+// By index, which is told where the forest is empty.
+fn go_on(room: &mut [u32], rows: &LookUps, tail: &[u16]) -> Judgement
+    requires { SomeGoOn room.old rows.now.acts.now rows.now.go.now rows.now.lens.now rows.now.lefts.now rows.now.states tail.now }
+    ensures { GoesOn room.old rows.now.acts.now rows.now.go.now rows.now.lens.now rows.now.lefts.now rows.now.states tail.now result }
 {
-    let mut i = 1;
     let mut steps = 0;
-    while i < tail.len() {
-        let t = token(tail[i]);
-        let f = Forest::next(room, acts, go, lens, lefts, states, t);
+    for i in 1..tail.len() {
+        let f = Forest::next(room, rows, usize::from(tail[i]));
         steps += f.steps;
         if f.empty {
             return Judgement {
                 answer: 1,
                 value: i,
-                steps: steps,
+                steps,
             };
         }
-        i += 1;
     }
     Judgement {
         answer: 0,
         value: tail.len(),
-        steps: steps,
+        steps,
     }
 }
 
 // The whole tail. The empty tail is a piece; the first token starts the forest.
-pub(crate) fn run(
-    room: &mut [u32],
-    acts: &[u16],
-    go: &[u16],
-    lens: &[u16],
-    lefts: &[u16],
-    states: usize,
-    tail: &[u16],
-) -> Judgement
-    requires { SomeRun room.old acts.now go.now lens.now lefts.now states tail.now }
-    ensures { Runs room.old acts.now go.now lens.now lefts.now states tail.now result }
+pub(crate) fn run(room: &mut [u32], rows: &LookUps, tail: &[u16]) -> Judgement
+    requires { SomeRun room.old rows.now.acts.now rows.now.go.now rows.now.lens.now rows.now.lefts.now rows.now.states tail.now }
+    ensures { Runs room.old rows.now.acts.now rows.now.go.now rows.now.lens.now rows.now.lefts.now rows.now.states tail.now result }
 {
-    if tail.len() == 0 {
+    let [first, ..] = tail else {
         return Judgement {
             answer: 0,
             value: 0,
             steps: 0,
         };
-    }
-    let t = token(tail[0]);
-    let f = Forest::start(room, go, states, t);
+    };
+    let f = Forest::start(room, rows, usize::from(*first));
     if f.empty {
         return Judgement {
             answer: 1,
@@ -69,5 +49,5 @@ pub(crate) fn run(
             steps: 0,
         };
     }
-    go_on(room, acts, go, lens, lefts, states, tail)
+    go_on(room, rows, tail)
 }

@@ -29,7 +29,7 @@ get-c-requires t c =
     let h = print_in c.args.room.now g.out g.a g.k c.loop-a-test.true g.invariant.some in (omega arith, h.0, h.1)
 
 pub overflow_add-k : goal.overflow_add-k
-overflow_add-k t c = let h = print_place c.loop-a.invariant.some in search rules
+overflow_add-k t c = search rules
 
 pub print-k-requires : goal.print-k-requires
 print-k-requires t c =
@@ -75,7 +75,7 @@ pub bounds-out-k-2 : goal.bounds-out-k-2
 bounds-out-k-2 t c = print_place c.loop-a.invariant.some
 
 pub overflow_add-result : goal.overflow_add-result
-overflow_add-result t c = let h = print_place c.loop-a.invariant.some in search rules
+overflow_add-result t c = search rules
 
 pub shape_of-out : goal.shape_of-out
 shape_of-out t c = length-set c.loop-a.out c.loop-a.k 0 ∙ c.loop-a.invariant.len

@@ -20,6 +20,5 @@ returns-then-out-first c = JoinsInto.refused (λ f. omega (arith, c.if-out-first
 pub returns : goal.returns
 returns c =
     let a = c.args in
-    let the-merge = c.merge in
-    subst⁻¹ (λ (l : List ℕ). JoinsInto a.first.now a.second.now a.out.now true l) the-merge.ensures
+    subst⁻¹ (λ (l : List ℕ). JoinsInto a.first.now a.second.now a.out.now true l) c.merge.ensures
     (JoinsInto.joined (record { in_first = search rules; in_second = search rules; places = search rules }))

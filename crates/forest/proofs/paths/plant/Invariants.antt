@@ -4,6 +4,3 @@ use Rattle.forest.proofs.paths.plant.Given as goal
 
 abbrev pub invariant-loop-i : goal.invariant-loop-i
 invariant-loop-i l = Sown l.initial.room l.paths l.room l.x l.i
-
-abbrev pub decreases-loop-i : goal.decreases-loop-i
-decreases-loop-i l = l.i

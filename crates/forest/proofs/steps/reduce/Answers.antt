@@ -1,40 +1,30 @@
 -- `reduce` meets its contract: by whether a path is short, and whether trees are to be added.
 use Rattle.forest.proofs.Reducing.{reduce_some, reduce_extend, reduces_long, reduces_short, reduces_added}
 use Rattle.forest.specs.Grows.{GrowsTold}
-use mathlib.Core.Bool.{Bool, true, false}
-use mathlib.Core.Path.{refl, subst}
+use mathlib.Core.Bool.{Bool}
+use mathlib.Core.Path.{subst}
 use Rattle.forest.proofs.steps.reduce.Goals as goal
+use Rattle.forest.proofs.steps.reduce.Goals.{else-long-via-then-long+else-add, else-long-via-else-long}
 
-pub grow-requires : goal.grow-requires
-grow-requires c = reduce_some c.requires
+pub grow-long-requires : goal.grow-long-requires
+grow-long-requires c = reduce_some c.requires
 
 pub extend-requires : goal.extend-requires
-extend-requires c = reduce_extend c.requires c.grow.ensures
+extend-requires c =
+    reduce_extend c.requires (subst (λ (b : Bool). GrowsTold c.args.room.now c.args.row.now c.args.depth c.args.p c.grow-long.new.room b) c.if-long.true c.grow-long.ensures)
 
 pub returns-then-add : goal.returns-then-add
 returns-then-add c =
-    let the-grow = c.grow in
     let s = c.args in
-    let w = s.room.now in
-    let row = s.row.now in
-    let v = the-grow.new.room in
-    let the-extend = c.extend in
-    reduces_added w row s.depth s.p v true (subst (λ (b : Bool). GrowsTold w row s.depth s.p v b) c.if-grow.true the-grow.ensures) s.add c.if-add.true refl the-extend.new.room the-extend.ensures
+    reduces_added s.room.now s.row.now s.depth s.p c.grow-long.new.room c.grow-long.result c.grow-long.ensures s.add c.if-add.true c.if-long.true
+    c.extend.new.room c.extend.ensures
 
-pub returns-then-grow : goal.returns-then-grow
-returns-then-grow c =
-    let the-grow = c.grow in
+pub returns-else-long : goal.returns-else-long
+returns-else-long c =
     let s = c.args in
-    let w = s.room.now in
-    let row = s.row.now in
-    let v = the-grow.new.room in
-    reduces_short w row s.depth s.p v true (subst (λ (b : Bool). GrowsTold w row s.depth s.p v b) c.if-grow.true the-grow.ensures) s.add c.if-add.false refl
-
-pub returns : goal.returns
-returns c =
-    let the-grow = c.grow in
-    let s = c.args in
-    let w = s.room.now in
-    let row = s.row.now in
-    let v = the-grow.new.room in
-    reduces_long w row s.depth s.p v false (subst (λ (b : Bool). GrowsTold w row s.depth s.p v b) c.if-grow.false the-grow.ensures) s.add refl
+    elim c.else-long.branch [
+      | else-long-via-then-long+else-add w ↦
+          reduces_short s.room.now s.row.now s.depth s.p c.grow-long.new.room c.grow-long.result c.grow-long.ensures s.add w.if-add.false w.if-long.true
+      | else-long-via-else-long w ↦
+          reduces_long s.room.now s.row.now s.depth s.p c.grow-long.new.room c.grow-long.result c.grow-long.ensures s.add w.if-long.false
+    ]

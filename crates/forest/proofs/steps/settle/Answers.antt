@@ -13,13 +13,12 @@ join-requires c =
 
 pub returns : goal.returns
 returns c =
-    let the-get = c.get-x in
     let the-get2 = c.get-y in
     let the-join = c.join in
     let v = c.args.room.now in
     let u = the-join.new.room in (
       u,
       subst (λ (z : ℕ). Joins v 0 1 (at v 0 1) z u) the-get2.ensures.0
-          (subst (λ (z : ℕ). Joins v 0 1 z the-get2.result u) the-get.ensures.0 the-join.ensures),
+          (subst (λ (z : ℕ). Joins v 0 1 z the-get2.result u) c.get-x.ensures.0 the-join.ensures),
       c.put.ensures,
     )

@@ -12,15 +12,13 @@ pub grow-requires : goal.grow-requires
 grow-requires c =
     let the-get = c.get-x in
     let row = c.args.row.now in
-    let w = c.args.room.now in
-    subst⁻¹ (λ (l : List ℕ). SomeSource l row the-get.result) c.put.ensures (subst⁻¹ (λ (z : ℕ). SomeSource (poke w 0 1 0) row z) the-get.ensures.0 (shift_some c.requires))
+    subst⁻¹ (λ (l : List ℕ). SomeSource l row the-get.result) c.put.ensures (subst⁻¹ (λ (z : ℕ). SomeSource (poke c.args.room.now 0 1 0) row z) the-get.ensures.0 (shift_some c.requires))
 
 pub returns : goal.returns
 returns c =
-    let the-get = c.get-x in
     let the-put = c.put in
     let the-grow = c.grow in
     let row = c.args.row.now in
     let w = c.args.room.now in
     let v = the-grow.new.room in
-    shift_shifts w row v (subst (λ (l : List ℕ). Grows l row 0 (at w 0 1) v) the-put.ensures (subst (λ (z : ℕ). Grows the-put.new.room row 0 z v) the-get.ensures.0 (untold the-grow.ensures)))
+    shift_shifts w row v (subst (λ (l : List ℕ). Grows l row 0 (at w 0 1) v) the-put.ensures (subst (λ (z : ℕ). Grows the-put.new.room row 0 z v) c.get-x.ensures.0 (untold the-grow.ensures)))

@@ -9,7 +9,5 @@ use Rattle.forest.proofs.store.drop_one.Goals as goal
 pub returns : goal.returns
 unfolding dropped
 returns c =
-    let the-put = c.put in
-    let the-put2 = c.put-2 in
     let x = c.args.x in
-    c.push.ensures ∙ ap (λ (l : List ℕ). pushed l x) (the-put2.ensures ∙ ap (λ (l : List ℕ). poke l x 2 0) the-put.ensures)
+    c.push.ensures ∙ ap (λ (l : List ℕ). pushed l x) (c.put-2.ensures ∙ ap (λ (l : List ℕ). poke l x 2 0) c.put.ensures)

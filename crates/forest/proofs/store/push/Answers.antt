@@ -12,9 +12,6 @@ returns-then-x-eq0 c =
 
 pub returns : goal.returns
 returns c =
-    let the-if = c.if-x-eq0 in
-    let the-get = c.get-h in
-    let the-put = c.put in
     let w = c.args.room.now in
     let x = c.args.x in
-    c.put-2.ensures ∙ ap (λ (l : List ℕ). poke l 0 3 x) (the-put.ensures ∙ ap (λ (h : ℕ). poke w x 3 h) the-get.ensures.0) ∙ sym (push_some w x the-if.false)
+    c.put-2.ensures ∙ ap (λ (l : List ℕ). poke l 0 3 x) (c.put.ensures ∙ ap (λ (h : ℕ). poke w x 3 h) c.get-h.ensures.0) ∙ sym (push_some w x c.if-x-eq0.false)

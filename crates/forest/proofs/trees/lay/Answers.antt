@@ -9,7 +9,5 @@ use Rattle.forest.proofs.trees.lay.Goals as goal
 pub returns : goal.returns
 unfolding rooted
 returns c =
-    let the-put = c.put in
-    let the-put2 = c.put-2 in
     let s = c.args in
-    c.put-3.ensures ∙ ap (λ (l : List ℕ). poke l s.p 2 0) (the-put2.ensures ∙ ap (λ (l : List ℕ). poke l s.p 1 s.x) the-put.ensures)
+    c.put-3.ensures ∙ ap (λ (l : List ℕ). poke l s.p 2 0) (c.put-2.ensures ∙ ap (λ (l : List ℕ). poke l s.p 1 s.x) c.put.ensures)

@@ -3,8 +3,8 @@ use Rattle.forest.specs.Joins.{Passed}
 use Rattle.forest.specs.Trees.{live}
 use Rattle.forest.proofs.trees.place_of.Given as goal
 
-abbrev pub invariant-loop-a : goal.invariant-loop-a
-invariant-loop-a l = Passed l.room l.p l.d l.j l.a
+abbrev pub invariant-loop-place : goal.invariant-loop-place
+invariant-loop-place l = Passed l.room l.p l.place.node l.place.word l.place.rest
 
-abbrev pub decreases-loop-a : goal.decreases-loop-a
-decreases-loop-a l = live l.room l.a
+abbrev pub decreases-loop-place : goal.decreases-loop-place
+decreases-loop-place l = live l.room l.place.rest

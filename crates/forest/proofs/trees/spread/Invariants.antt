@@ -4,6 +4,3 @@ use Rattle.forest.proofs.trees.spread.Given as goal
 
 abbrev pub invariant-loop-i : goal.invariant-loop-i
 invariant-loop-i l = Goes l.initial.room l.row l.room l.i
-
-abbrev pub decreases-loop-i : goal.decreases-loop-i
-decreases-loop-i l = l.i

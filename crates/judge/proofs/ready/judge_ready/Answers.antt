@@ -1,36 +1,16 @@
 -- `judge_ready` meets its contract: whatever the run left on the words it was lent, they are cleared.
-use Rattle.judge.proofs.Judging.{words_there, run_ready, ready_into}
+use Rattle.judge.proofs.Judging.{words_there, ready_into}
 use native.Mathlib.Omega.{arith}
-use lib.ListN.{length-append}
+use lib.ListN.{replicate, length-append}
 use lib.Seq.{length-take-le}
-use mathlib.Core.Path.{sym}
+use Prim.Native.Nat.{ℕ, ◌≤◌}
+use lib.ListN.{length}
+use mathlib.Core.Path.{◌∙◌, ap}
 use Rattle.judge.proofs.ready.judge_ready.Goals as goal
-
-pub slice_bounds-run_table-end : goal.slice_bounds-run_table-end
-slice_bounds-run_table-end c =
-    let a = c.args in
-    words_there a.table.now a.tail.now a.room.now a.states a.words c.requires
-
-pub slice_bounds-run_table-end-2 : goal.slice_bounds-run_table-end-2
-slice_bounds-run_table-end-2 c =
-    let a = c.args in
-    sym (length-take-le a.words a.room.now (words_there a.table.now a.tail.now a.room.now a.states a.words c.requires))
-
-pub run_table-j-requires : goal.run_table-j-requires
-run_table-j-requires c =
-    let a = c.args in
-    run_ready a.table.now a.tail.now a.room.now a.states a.words c.requires
-
-pub clear-requires : goal.clear-requires
-clear-requires c =
-    let a = c.args in
-    let l = length-take-le a.words a.room.now (words_there a.table.now a.tail.now a.room.now a.states a.words c.requires) in
-    let k = c.run_table-j.auto.room in
-    simp length-append (omega arith)
 
 pub returns : goal.returns
 returns c =
-    let a = c.args in
     let w = c.run_table-j in
-    ready_into a.table.now a.tail.now a.room.now a.states a.words c.requires w.result w.new.room
-    c.clear.new.room w.auto.room w.ensures c.clear.ensures
+    let k : c.args.words ≤ length c.args.room.now = words_there _ c.requires in
+    ready_into _ c.requires w.new.room w.auto.room w.ensures
+    (c.fill.ensures.after (λ y h. h) ∙ ap (λ (n : ℕ). replicate n 0) (length-take-le c.args.words _ (simp length-append (omega (arith, w.auto.room, length-take-le c.args.words c.args.room.now k)))))
