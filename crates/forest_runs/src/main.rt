@@ -1,21 +1,22 @@
 // Joins pairs of forests that stand on standard input, and prints what came out.
 //
-// A case is one line: a sign, the first forest's paths, a bar, the second's. A path is the letters of its states from the root down: `a` is
-// state 0, and `Z` the highest state there is. A space stands between two paths. The sign says how many places are lent for the print: `=` just
-// as many as are asked for, `-` one less, `+` some more. Before the call every place holds JUNK.
-// For each case one line is printed: `joined` or `refused`; the print, a letter for a root and a dot for the end of some trees side by side; and
-// how many places after it are as they were.
+// A case is one line: a sign, the first forest's paths, a bar, the second's. A path is the letters of its states from
+// the root down: `a` is state 0, and `Z` the highest state there is. A space stands between two paths. The sign says
+// how many places are lent for the print: `=` just as many as are asked for, `-` one less, `+` some more. Before the
+// call every place holds JUNK.
+// For each case one line is printed: `joined` or `refused`; the print, a letter for a root and a dot for the end of
+// some trees side by side; and how many places after it are as they were.
 #![tactic(auto)]
 
-ghost use Rattle.std.specs.Prelude.{◌≤◌};
+ghost use Rattle.std.specs.Prelude.{◌≤◌, ◌*◌};
+ghost use Rattle.forest_runs.specs.declared.TheConstants.{MAX_PLACES};
 
 use forest::joined;
 use lines::Shape;
-use runs::read_full;
+use runs::{leading, read_full};
 use std::io;
 
 mod letters; // letters.rt: entries as letters
-mod places; // places.rt: the places of a print before and after
 
 const MAX_CASES: usize = 1000;
 
@@ -29,66 +30,66 @@ const MORE: usize = 3;
 
 const MAX_PLACES: usize = 4 * MAX_ENTRIES + 1 + MORE;
 
+// What every place holds before: more than any print has.
+const JUNK: usize = 70000;
+
+// Two forests' entries, how many places are lent for the print, and the place after the case.
+#[derive(Clone, Copy)]
+struct Case<'a> {
+    first: &'a [u16],
+    second: &'a [u16],
+    places: usize,
+    next: usize,
+    ghost fits: { places ≤ MAX_PLACES },
+}
+
 // The places that are lent, by the sign, where so many entries are given.
 fn lent(sign: u8, entries: usize) -> usize
-    requires { entries ≤ 8194 }
-    ensures { result ≤ 16392 }
+    requires { entries ≤ 2 * MAX_ENTRIES }
+    ensures { result ≤ MAX_PLACES }
 {
-    if sign == b'-' {
-        return 2 * entries;
+    let asked = 2 * entries + 1;
+    match sign {
+        b'-' => asked - 1,
+        b'+' => asked + MORE,
+        _ => asked,
     }
-    if sign == b'+' {
-        return 2 * entries + 1 + MORE;
-    }
-    2 * entries + 1
 }
 
 // Prints what was told, and what became of the places.
 fn tell(rt: &impl Print, told: bool, out: &[usize]) -> io::Result<()> {
-    if told {
-        rt.write_all(b"joined ")?;
-    } else {
-        rt.write_all(b"refused ")?;
-    }
-    let end = letters::show(rt, out)?;
-    let same = places::same_from(out, end);
-    runs::show(rt, same - end)?;
-    rt.write_all(b"\n")
+    let end = out.iter().position(|x| *x == JUNK).unwrap_or(out.len());
+    print!(rt; "{} ", if told { "joined" } else { "refused" })?;
+    letters::show(rt, &out[..end])?;
+    println!(rt; " {}", leading(&out[end..], &JUNK))
 }
 
-// Joins two forests in the lent places of `out`.
-fn join_two(rt: &impl Print, first: &[u16], second: &[u16], out: &mut [usize]) -> io::Result<()> {
-    places::fill(out);
-    let told = joined(first, second, out);
-    tell(rt, told, out)
-}
+impl<'a> Case<'a> {
+    // The case that begins at a place, its entries put into two slices.
+    fn at(
+        input: &[u8],
+        at: usize,
+        first: &'a mut [u16; MAX_ENTRIES],
+        second: &'a mut [u16; MAX_ENTRIES],
+    ) -> Option<Case<'a>> {
+        let sign = *input.get(at)?;
+        let one = letters::read(input, at + 1, first);
+        let two = letters::read(input, one.next, second);
+        Some(Case {
+            first: &first[..one.value],
+            second: &second[..two.value],
+            places: lent(sign, one.value + two.value),
+            next: two.next,
+        })
+    }
 
-// Runs the case that begins at a place, and answers the place after it.
-fn case_at(
-    rt: &impl Print,
-    input: &[u8],
-    at: usize,
-    first: &mut [u16],
-    second: &mut [u16],
-    out: &mut [usize],
-) -> io::Result<usize> {
-    if input.len() <= at {
-        return Ok(input.len());
+    // Joins the forests in the places that are lent of `out`, and prints the outcome.
+    fn run(&self, rt: &impl Print, out: &mut [usize; MAX_PLACES]) -> io::Result<()> {
+        let out = &mut out[..self.places];
+        out.fill(JUNK);
+        let told = joined(self.first, self.second, out);
+        tell(rt, told, out)
     }
-    let one = letters::read(input, at + 1, first);
-    let two = letters::read(input, one.next, second);
-    if MAX_ENTRIES < one.count {
-        return Ok(input.len());
-    }
-    if MAX_ENTRIES < two.count {
-        return Ok(input.len());
-    }
-    let k = lent(input[at], one.count + two.count);
-    if out.len() < k {
-        return Ok(input.len());
-    }
-    join_two(rt, &first[..one.count], &second[..two.count], &mut out[..k])?;
-    Ok(two.next)
 }
 
 fn main(rt: HostRuntime) -> io::Result<()> {
@@ -97,13 +98,13 @@ fn main(rt: HostRuntime) -> io::Result<()> {
     let mut second = [0u16; MAX_ENTRIES];
     let mut out = [0usize; MAX_PLACES];
     let n = read_full(&mut rt.stdin(), &mut input)?;
-    let given = &input[..n];
     let mut at = 0;
     for _ in 0..MAX_CASES {
-        if given.len() <= at {
+        let Some(case) = Case::at(&input[..n], at, &mut first, &mut second) else {
             break;
-        }
-        at = case_at(&rt, given, at, &mut first, &mut second, &mut out)?;
+        };
+        case.run(&rt, &mut out)?;
+        at = case.next;
     }
     Ok(())
 }

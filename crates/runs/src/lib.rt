@@ -1,9 +1,11 @@
-// What the programs share: an input that is read, numbers that stand in it, and numbers that are printed.
+// What the programs share: an input that is read, numbers and bytes that stand in it, and what stands at the front of
+// a slice.
 #![tactic(auto)]
 
-ghost use Rattle.std.specs.Prelude.{◌≡◌, ◌≢◌, ℕ, ◌+◌, ◌%◌, ◌≤◌, ◌<◌, IfOk, length, take, drop, slice_index};
+ghost use Rattle.std.specs.Prelude.{◌≡◌, ◌≢◌, ℕ, ◌%◌, ◌≤◌, ◌<◌, IfOk, IfSome, MatchOption, length, take, drop, slice_index};
 ghost use Rattle.std.specs.Io.{ReadsAtMost};
 ghost use Rattle.std.specs.Io.KnownBytes.{Consumes, IsAtEnd};
+ghost use Rattle.std.specs.List.{take_while};
 ghost use Rattle.runs.specs.Fields.{number_from};
 
 use std::io;
@@ -24,48 +26,28 @@ pub fn field(s: &[u8], at: usize) -> Found
     ensures { result ≡ number_from 0 at (drop at s.now) }
 {
     let mut value = 0;
-    let mut i = at;
-    while i < s.len() {
-        let c = s[i];
-        i += 1;
-        if c < b'0' {
-            return Found { value, next: i };
+    for i in at..s.len() {
+        match s[i] {
+            c @ b'0'..=b'9' if value <= MAX_NUMBER => value = 10 * value + usize::from(c - b'0'),
+            _ => return Found { value, next: i + 1 },
         }
-        if b'9' < c {
-            return Found { value, next: i };
-        }
-        if MAX_NUMBER < value {
-            return Found { value, next: i };
-        }
-        value = 10 * value + digit(c);
     }
-    Found { value, next: i }
+    Found {
+        value,
+        next: at.max(s.len()),
+    }
 }
 
-// The place of the first such byte from a place on, or the end where there is none.
-pub fn find(s: &[u8], from: usize, byte: u8) -> usize
-    requires { from ≤ length s.now }
-    ensures from { from ≤ result }
-    ensures within { result ≤ length s.now }
-    ensures before { (k : ℕ) → from ≤ k → k < result → slice_index s.now k ≢ byte }
-    ensures found { result < length s.now → slice_index s.now result ≡ byte }
+// The place of the first such byte from a place on.
+pub fn find(s: &[u8], from: usize, byte: u8) -> Option<usize>
+    ensures from { IfSome result (λ at. from ≤ at) }
+    ensures within { IfSome result (λ at. at < length s.now) }
+    ensures before { MatchOption result
+        ((k : ℕ) → from ≤ k → k < length s.now → slice_index s.now k ≢ byte)
+        (λ at. (k : ℕ) → from ≤ k → k < at → slice_index s.now k ≢ byte) }
+    ensures found { IfSome result (λ at. slice_index s.now at ≡ byte) }
 {
-    let mut i = from;
-    while i < s.len() {
-        if s[i] == byte {
-            return i;
-        }
-        i += 1;
-    }
-    i
-}
-
-// What a digit says.
-fn digit(c: u8) -> usize
-    requires { 48 ≤ c }
-    ensures { result + 48 ≡ c }
-{
-    (c - b'0') as usize
+    (from..s.len()).find(|k| s[*k] == byte)
 }
 
 // The lowest 16 bits of a number.
@@ -75,7 +57,16 @@ pub fn low(x: usize) -> u16
     (x % 65536) as u16
 }
 
-// Reads until a slice is full or the input ends, and answers how many bytes it put at the front.
+// How many values at the front of a slice are this one.
+pub fn leading<T: PartialEq>(s: &[T], value: &T) -> usize
+    ensures count { result ≡ length (take_while (λ x. T.eq x value.now) s.now) }
+    ensures within { result ≤ length s.now }
+{
+    s.iter().take_while(|x| *x == value).count()
+}
+
+// Reads until a slice is full or the input ends, and answers how many bytes it put at the front. `read_exact` does
+// not tell how many where the input ends first.
 pub fn read_full<R: Read>(reader: &mut R, buf: &mut [u8]) -> io::Result<usize>
     ensures bound { ReadsAtMost result buf.new }
     ensures bytes { IfOk result (λ n. Consumes (R.remaining reader.old) (R.remaining reader.new) (take n buf.new)) }
@@ -90,15 +81,4 @@ pub fn read_full<R: Read>(reader: &mut R, buf: &mut [u8]) -> io::Result<usize>
         done += n;
     }
     Ok(done)
-}
-
-// Prints a number after a space.
-pub fn show(rt: &impl Print, number: usize) -> io::Result<()> {
-    print!(rt; " {number}")
-}
-
-// Prints two numbers, each after a space.
-pub fn show_two(rt: &impl Print, first: usize, second: usize) -> io::Result<()> {
-    show(rt, first)?;
-    show(rt, second)
 }

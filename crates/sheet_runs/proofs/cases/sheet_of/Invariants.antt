@@ -1,6 +1,9 @@
--- Each turn leaves a part less.
-use Rattle.std.proofs.Common.{◌-◌}
+-- The sheet's bytes stand at its front.
+use Rattle.std.proofs.Common.{◌≤◌, length}
 use Rattle.sheet_runs.proofs.cases.sheet_of.Given as goal
 
-abbrev pub decreases-loop-k : goal.decreases-loop-k
-decreases-loop-k l = l.parts - l.k
+abbrev pub invariant-loop : goal.invariant-loop
+invariant-loop l = l.made.value ≤ length l.sheet
+
+abbrev pub invariant-loop-2 : goal.invariant-loop-2
+invariant-loop-2 l = l.made.value ≤ length l.sheet

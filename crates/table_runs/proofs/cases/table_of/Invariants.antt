@@ -1,6 +1,9 @@
--- Each turn leaves a part less.
-use Rattle.std.proofs.Common.{◌-◌}
+-- The table's numbers stand at its front.
+use Rattle.std.proofs.Common.{◌≤◌, length}
 use Rattle.table_runs.proofs.cases.table_of.Given as goal
 
-abbrev pub decreases-loop-k : goal.decreases-loop-k
-decreases-loop-k l = l.parts - l.k
+abbrev pub invariant-loop : goal.invariant-loop
+invariant-loop l = l.made.value ≤ length l.table
+
+abbrev pub invariant-loop-2 : goal.invariant-loop-2
+invariant-loop-2 l = l.made.value ≤ length l.table

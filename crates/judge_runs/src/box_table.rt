@@ -1,7 +1,7 @@
 // The small box sheet's table, as numbers: for each line the count of its numbers, then the numbers.
 
 // How many numbers it has.
-pub(crate) const NUMBERS: usize = 205;
+const NUMBERS: usize = 205;
 
 // Its states.
 pub(crate) const STATES: usize = 9;

@@ -1,9 +1,0 @@
--- The place is one of the places or their end, and each turn leaves a place less.
-use Rattle.std.proofs.Common.{◌-◌, ◌≤◌, length}
-use Rattle.forest_runs.proofs.letters.show.Given as goal
-
-abbrev pub invariant-loop-i : goal.invariant-loop-i
-invariant-loop-i g l = l.i ≤ length l.out
-
-abbrev pub decreases-loop-i : goal.decreases-loop-i
-decreases-loop-i g l = length l.out - l.i

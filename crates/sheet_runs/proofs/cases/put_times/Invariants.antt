@@ -1,5 +1,0 @@
--- Each turn leaves a time less.
-use Rattle.sheet_runs.proofs.cases.put_times.Given as goal
-
-abbrev pub decreases-loop-left : goal.decreases-loop-left
-decreases-loop-left l = l.left
