@@ -5,8 +5,7 @@ use native.Mathlib.Omega.{arith}
 use mathlib.Core.Path.{◌≡◌, sym, ap, ◌∙◌}
 use contract.Lifetimes.{Lfts}
 use Rattle.sheet.specs.Reads.Slices.{unique_into}
-use Rattle.table.specs.Check.{numbers}
-use Rattle.table.specs.Check.{Check}
+use Rattle.table.specs.Check.{Check, numbers}
 use Rattle.table.specs.Check.Exact.{unique as unique-check}
 use Rattle.judge.specs.declared.Judgement.{Judgement}
 use Rattle.judge.specs.Judge.Into.{unique as unique-judgement}

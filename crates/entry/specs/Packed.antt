@@ -1,10 +1,8 @@
 -- Outcomes in one number each: the answer in its lowest 8 bits, the value in the next 24, the steps above them. The contracts of the entries say
 -- of these parts of the number what the contracts of reader, check and judge say of answer, value and steps.
-use Rattle.std.specs.Prelude.{ℕ, ◌/◌, ◌%◌, ◌≡◌, List}
-use Rattle.sheet.specs.Reads.{ReadsInto, answer_of}
-use Rattle.sheet.specs.declared.Answer.{Answer}
-use Rattle.table.specs.Check.{Checks, numbers}
-use Rattle.table.specs.Check.{Check}
+use Rattle.std.specs.Prelude.{ℕ, ◌/◌, ◌%◌, ◌<◌, ◌≡◌, List}
+use Rattle.sheet.specs.Reads.{ReadsInto}
+use Rattle.table.specs.Check.{Check, Checks, numbers}
 use Rattle.judge.specs.Judge.Into.{JudgesInto}
 use Rattle.judge.specs.declared.Judgement.{Judgement}
 
@@ -20,16 +18,13 @@ value_in r = r / 256 % 16777216
 abbrev pub steps_in : ℕ → ℕ
 steps_in r = r / 4294967296
 
--- the number has this answer, this value and these steps
-pub record Packs (a v s r : ℕ) : Type 0 where
-  pub answer : answer_in r ≡ a
-  pub value : value_in r ≡ v
-  pub steps : steps_in r ≡ s
+-- the judgement in a number
+abbrev pub judgement_in : ℕ → Judgement
+judgement_in r = record { answer = answer_in r; value = value_in r; steps = steps_in r }
 
--- the reader's answer as answer, value and steps
-unfoldable pub read_numbers : Answer → Judgement
-unfolding answer_of
-read_numbers r = record { answer = (answer_of r).0; value = (answer_of r).1; steps = 0 }
+-- a judgement that has room in a number
+abbrev pub Fits : Judgement → Type 0
+Fits j = (j.answer < 256) × (j.value < 16777216) × (j.steps < 4294967296)
 
 -- what the reader's number tells of a sheet, and what the slice holds after
 pub record ReadsAs (bytes before : List ℕ) (r : ℕ) (after : List ℕ) : Type 0 where
@@ -43,10 +38,6 @@ pub record ChecksAs (table : List ℕ) (r : ℕ) : Type 0 where
   pub answer : answer_in r ≡ (numbers told).0
   pub value : value_in r ≡ (numbers told).1
   pub no_steps : steps_in r ≡ 0
-
--- the judgement in a number
-abbrev pub judgement_in : ℕ → Judgement
-judgement_in r = record { answer = answer_in r; value = value_in r; steps = steps_in r }
 
 -- what the judge's number tells of a table as numbers, a tail and a room, and the room after
 abbrev pub JudgesAs : List ℕ → List ℕ → List ℕ → ℕ → List ℕ → Type 0

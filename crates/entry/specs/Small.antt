@@ -12,8 +12,7 @@ use Rattle.sheet.specs.Sheet.{print_from}
 use Rattle.sheet.specs.Sheet.Exact.{print_long, print-flat}
 use Rattle.sheet.specs.Reads.{SheetOf, Stops, Reads, ReadsInto, refused, filled}
 use Rattle.table.specs.Checks.{Checked}
-use Rattle.table.specs.Check.{Checks, numbers}
-use Rattle.table.specs.Check.{Check}
+use Rattle.table.specs.Check.{Check, Checks, numbers}
 use Rattle.judge.specs.declared.Judgement.{Judgement}
 use Rattle.judge.specs.Judge.{JudgesUpTo, Judges, Good}
 

@@ -1,31 +1,31 @@
-// The reader, the check and the judge for programs in C: slices as a pointer and a length each, the outcome as one number.
+// The reader, the check and the judge for programs in C: slices as a pointer and a length each, the outcome as one
+// number.
 #![tactic(auto)]
 
-ghost use Rattle.std.specs.Prelude.{◌≡◌, ◌<◌};
-ghost use Rattle.entry.specs.Packed.{Packs, read_numbers, ReadsAs, ChecksAs, JudgesAs};
+ghost use Rattle.std.specs.Prelude.{◌≡◌};
+ghost use Rattle.judge.specs.Judge.{handed_read};
+ghost use Rattle.entry.specs.Packed.{Fits, judgement_in, ReadsAs, ChecksAs, JudgesAs};
 
 use judge::{Judgement, judge, refusal};
-use sheet::{Answer, read};
+use sheet::{ReadError, read};
 use table::check_table;
 
-// Answer, value and steps in one number: the answer in its lowest 8 bits, the value in the next 24, the steps above them.
-fn pack(answer: usize, value: usize, steps: usize) -> u64
-    requires { (answer < 256) × (value < 16777216) × (steps < 4294967296) }
-    ensures { Packs answer value steps result }
+// A judgement in one number: the answer in its lowest 8 bits, the value in the next 24, the steps above them.
+fn pack(told: Judgement) -> u64
+    requires { Fits told }
+    ensures { judgement_in result ≡ told }
 {
-    (steps * 4294967296 + value * 256 + answer) as u64
+    (told.steps * 4294967296 + told.value * 256 + told.answer) as u64
 }
 
-// Document 01's number and value of the reader's answer; the reader makes no steps.
-fn numbers_read(told: Answer) -> Judgement
-    ensures { result ≡ read_numbers told }
+// The reader's answer handed out as a judgement; the reader makes no steps.
+#[tactic(auto, unfolding(sheet::specs::Reads::answer_of))]
+fn numbers_read(told: Result<usize, ReadError>) -> Judgement
+    ensures { result ≡ handed_read told }
 {
     match told {
-        Answer::Fit(count) => refusal(0, count),
-        Answer::TooLong => refusal(10, 0),
-        Answer::Form(line) => refusal(11, line),
-        Answer::Range(line) => refusal(12, line),
-        Answer::Short(count) => refusal(13, count),
+        Ok(count) => refusal(0, count),
+        Err(error) => Judgement::from(error),
     }
 }
 
@@ -34,8 +34,7 @@ fn numbers_read(told: Answer) -> Judgement
 pub extern "C" fn quyetlumon_read(bytes: &[u8], out: &mut [u16]) -> u64
     ensures { ReadsAs bytes.now out.old result out.new }
 {
-    let told = numbers_read(read(bytes, out));
-    pack(told.answer, told.value, told.steps)
+    pack(numbers_read(read(bytes, out)))
 }
 
 // Checks a table of numbers.
@@ -43,8 +42,7 @@ pub extern "C" fn quyetlumon_read(bytes: &[u8], out: &mut [u16]) -> u64
 pub extern "C" fn quyetlumon_check(table: &[u16]) -> u64
     ensures { ChecksAs table.now result }
 {
-    let told = Judgement::from(check_table(table));
-    pack(told.answer, told.value, told.steps)
+    pack(Judgement::from(check_table(table)))
 }
 
 // Judges a tail by a table, in a lent room.
@@ -52,6 +50,5 @@ pub extern "C" fn quyetlumon_check(table: &[u16]) -> u64
 pub extern "C" fn quyetlumon_judge(table: &[u16], tail: &[u16], room: &mut [u32]) -> u64
     ensures { JudgesAs table.now tail.now room.old result room.new }
 {
-    let told = judge(table, tail, room);
-    pack(told.answer, told.value, told.steps)
+    pack(judge(table, tail, room))
 }

@@ -1,4 +1,5 @@
-// The entries for programs in C as an archive: each export calls the function of that name in `entry`, and promises what it promises.
+// The entries for programs in C as an archive: each export calls the function of that name in `entry`, and promises
+// what it promises.
 #![tactic(auto)]
 
 ghost use Rattle.entry.specs.Packed.{ReadsAs, ChecksAs, JudgesAs};

@@ -1,27 +1,21 @@
 -- Texts put one after the other, and a number's decimal digits.
 use Prim.Native.Nat.{ℕ, zero, suc, ◌+◌, ◌-◌, ◌/◌, ◌%◌, ◌^◌, ◌≤◌, ◌<◌}
 use native.Mathlib.Omega.{arith}
-use native.Mathlib.Nat.{zero-add, pow-suc, one-le-pow, pow-le-pow_right, le_of_suc-le-suc, lt_of_not-le}
-use mathlib.Core.Path.{◌≡◌, refl, sym, ap, ◌∙◌, subst}
-use mathlib.Core.Bool.{Bool, true, false, cond}
+use native.Mathlib.Nat.{zero-add, pow-suc, one-le-pow}
+use mathlib.Core.Path.{◌≡◌, sym, ap, ◌∙◌, subst}
+use mathlib.Core.Bool.{Bool, cond}
 use mathlib.Core.List.{List, [], ◌∷◌, ◌++◌, append_assoc}
 use lib.ListN.{length, take, drop, length-append}
-use lib.Seq.{paste, length-take-le, take_at, drop_at, drop-drop, take-length}
-use lib.Dec.{ltb}
+use lib.Seq.{length-take-le, take_at, drop_at, drop-drop}
 use borrow.Author.Tests.{lt-ltb, le-ltb}
 use Rattle.io.specs.Digits.{hex_digit_ascii, last_digits, IsDigitCount}
 use Rattle.lines.specs.Basics.{impossible}
 use Rattle.sheet.specs.Sheet.{digit0, newline, digits_within, in_front}
 use Rattle.sheet.specs.Quoted.{ascii}
-use Rattle.io.specs.Counts.{IsPrefixLen}
 use Rattle.judge.specs.declared.Judgement.{Judgement}
 use Rattle.input.specs.Shown.{max_places, shown_line, three_lines, put_at, Put}
 
 -- ---- texts
-
--- all of a text is put
-pub put_whole : (out : List ℕ) (at n : ℕ) (xs : List ℕ) → n ≡ length xs → paste out at xs n ≡ put_at out at xs
-put_whole out at n xs e = ap (paste out at xs) e ∙ ap (λ (x : List ℕ). (take at out ++ x) ++ drop (at + length xs) out) (take-length xs)
 
 -- a text after another is both as one text
 put_both : (out : List ℕ) (at : ℕ) (xs ys : List ℕ) → at ≤ length out → put_at (put_at out at xs) (at + length xs) ys ≡ put_at out at (xs ++ ys)
@@ -69,37 +63,7 @@ fewest_digits (suc f) (suc (suc k)) n h l =
     rw (le-ltb n 10 (omega arith), digits_within)
     ((λ i. fewest_digits f (suc k) (n / 10) less (omega arith) i ++ (decimal_glyph (n % 10) (omega arith) i ∷ [])))
 
--- twenty hold a 64-bit number
-pub few_places : (n k : ℕ) → IsDigitCount 10 1 n k → n < 18446744073709551616 → k ≤ max_places
-few_places n k h l = le_of_suc-le-suc (lt_of_not-le over)
-  where
-    over : max_places < k → ⊥
-    over o =
-        let p : 10 ^ (k - 1) ≤ n = h.2 (omega arith) in
-        let m : max_places ≤ k - 1 = omega arith in
-        let q : 10 ^ max_places ≤ 10 ^ (k - 1) = pow-le-pow_right (omega arith) m in
-        omega arith
-
--- so many digits at the most
-few_digits : (k n : ℕ) → length (digits_within k n) ≤ k
-unfolding digits_within
-few_digits zero n = omega arith
-few_digits (suc k) n = at (ltb n 10) refl (few_digits k (n / 10))
-  where
-    at : (t : Bool) → ltb n 10 ≡ t → length (digits_within k (n / 10)) ≤ k → length (digits_within (suc k) n) ≤ suc k
-    at true p h = rw (p, digits_within) (omega arith)
-    at false p h = rw (p, digits_within) (simp length-append (omega arith))
-
 -- ---- lines
-
--- the length of a line at the most
-pub line-short : (key : List ℕ) (n : ℕ) → length (shown_line key n) ≤ length key + (max_places + 1)
-unfolding shown_line
-line-short key n =
-    let h = few_digits max_places n in
-    let p = length-append key (digits_within max_places n ++ (newline ∷ [])) in
-    let q = length-append (digits_within max_places n) (newline ∷ []) in
-    omega arith
 
 -- a key, the fewest digits of a number, and LF are its line
 pub line_put : {out out₁ out₂ out₃ key ds : List ℕ} {at a b r : ℕ} (n k : ℕ) → at ≤ length out → IsDigitCount 10 1 n k → k ≤ max_places → ds ≡ last_digits 10 k n →
@@ -112,20 +76,15 @@ line_put {out} {out₁} {out₂} {out₃} {key} {at = at} {a = a} {b = b} {r = r
 
 -- the three lines at the front
 pub three_put : {out out₁ out₂ out₃ : List ℕ} {a b r : ℕ} (j : Judgement) → Put out 0 (shown_line (ascii "answer=") j.answer) a out₁ →
-    Put out₁ a (shown_line (ascii "value=") j.value) b out₂ → Put out₂ b (shown_line (ascii "steps=") j.steps) r out₃ → length out₃ ≡ length out →
-    82 ≡ length out → IsPrefixLen r out₃ × ((r ≡ length (three_lines j)) × (out₃ ≡ in_front (three_lines j) out))
+    Put out₁ a (shown_line (ascii "value=") j.value) b out₂ → Put out₂ b (shown_line (ascii "steps=") j.steps) r out₃ →
+    (r ≡ length (three_lines j)) × (out₃ ≡ in_front (three_lines j) out)
 unfolding three_lines ascii
-three_put {out} {out₃ = out₃} {r = r} j p q s l m =
+three_put {out} {out₃ = out₃} {r = r} j p q s =
     let answer = shown_line (ascii "answer=") j.answer in
     let value = shown_line (ascii "value=") j.value in
     let steps = shown_line (ascii "steps=") j.steps in
     let z : Put out 0 (three_lines j) r out₃ =
-    subst (λ (x : List ℕ). Put out 0 x r out₃) (append_assoc answer value steps) (put_then (omega arith) (put_then (omega arith) p q) s) in
-    let e : r ≡ length (three_lines j) = omega (arith, z.its_end) in
-    let u = length-append answer (value ++ steps) in
-    let v = length-append value steps in
-    let x = line-short (ascii "answer=") j.answer in
-    let y = line-short (ascii "value=") j.value in
-    let w = line-short (ascii "steps=") j.steps in
-    let k : r ≤ length out₃ = omega arith in
-    ((k, sym (length-take-le r out₃ k)), (e, z.its_bytes ∙ ap (λ (i : ℕ). three_lines j ++ drop i out) (zero-add (length (three_lines j)))))
+    subst (λ (x : List ℕ). Put out 0 x r out₃) (append_assoc answer value steps)
+    (put_then (omega arith) (put_then (omega arith) p q) s) in
+    let from_zero = zero-add (length (three_lines j)) in
+    (omega (arith, z.its_end), z.its_bytes ∙ ap (λ (i : ℕ). three_lines j ++ drop i out) from_zero)

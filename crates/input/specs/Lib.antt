@@ -3,3 +3,4 @@ pub mod Box
 pub mod Marked
 pub mod Parts
 pub mod Shown
+pub mod Told

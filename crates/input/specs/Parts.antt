@@ -2,8 +2,6 @@
 use Rattle.std.specs.Prelude.{ℕ, ◌≡◌, List, length}
 use Rattle.sheet.specs.Sheet.{Short}
 use Rattle.sheet.specs.Tail.{Words, tail_line}
-use Rattle.sheet.specs.Reads.{answer_of}
-use Rattle.sheet.specs.declared.Answer.{Answer}
 use Rattle.judge.specs.Judge.{refusal, JudgesUpTo}
 use Rattle.judge.specs.declared.Judgement.{Judgement}
 use Rattle.input.specs.Box.{Box}
@@ -11,10 +9,6 @@ use Rattle.input.specs.Box.{Box}
 -- the limits that slices set by their lengths
 abbrev pub box_of : ℕ → List ℕ → List ℕ → List ℕ → Box
 box_of most table tail room = record { bytes = most; numbers = length table; tokens = length tail; words = length room }
-
--- the reader's answer handed out as a judgement
-abbrev pub handed_out : Answer → Judgement
-handed_out a = refusal (answer_of a).0 (answer_of a).1
 
 -- the last line, which has the number n, by the numbers of a table; the lengths of two slices are the limits of tokens and of words of room
 pub data Tailed (n : ℕ) (tail room ns last : List ℕ) : Judgement → Type 0 where

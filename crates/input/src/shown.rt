@@ -10,16 +10,14 @@ use judge::Judgement;
 pub const LINES: usize = 82;
 
 // Puts a text at a place, and answers the place after it.
+// By hand: the promise of `three_lines` fixes every byte of the array, also behind the text.
 fn put(out: &mut [u8], at: usize, text: &[u8]) -> usize
     requires { at + length text.now ≤ length out.old }
     ensures { Put out.old at text.now result out.new }
 {
-    let mut i = 0;
-    while i < text.len() {
-        out[at + i] = text[i];
-        i += 1;
-    }
-    at + i
+    let end = at + text.len();
+    out[at..end].copy_from_slice(text);
+    end
 }
 
 // Puts a number's line at a place, after its key with `=`, and answers the place after it.

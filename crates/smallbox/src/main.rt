@@ -1,17 +1,10 @@
-// Document 01's judging program: reads an input from standard input, and prints the answer, its value and the steps, a line each.
+// Document 01's judging program: reads an input from standard input, and prints the answer, its value and the steps, a
+// line each.
 #![tactic(auto)]
 
-use input::{LINES, SMALL_BYTES, judge_box, three_lines};
-use runs::read_full;
+use input::{SMALL_READ, judge_box, run};
 use std::io;
 
-// One byte more than an input may have, so that a longer one shows.
-const MOST: usize = SMALL_BYTES + 1;
-
 fn main(rt: HostRuntime) -> io::Result<()> {
-    let mut bytes = [0u8; MOST];
-    let n = read_full(&mut rt.stdin(), &mut bytes)?;
-    let mut out = [0u8; LINES];
-    let k = three_lines(judge_box(&bytes[..n]), &mut out);
-    rt.write_all(&out[..k])
+    run::<SMALL_READ, _, _, _>(&mut rt.stdin(), &mut io::writer(&rt), judge_box)
 }

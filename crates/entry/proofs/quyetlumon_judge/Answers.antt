@@ -1,9 +1,6 @@
--- `quyetlumon_judge` meets its contract.
-use Rattle.entry.proofs.Packing.{judge_fits, judge_packed}
+-- `quyetlumon_judge` meets its contract: what the judge tells has room in a number.
+use Rattle.entry.proofs.Packing.{judge_fits}
 use Rattle.entry.proofs.quyetlumon_judge.Goals as goal
 
 pub pack-requires : goal.pack-requires
-pack-requires c = let k = c.judge-told in judge_fits k.result k.ensures
-
-pub returns : goal.returns
-returns c = let k = c.judge-told in judge_packed k.result c.pack.result k.ensures c.pack.ensures
+pack-requires c = judge_fits c.judge.ensures

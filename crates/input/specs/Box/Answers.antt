@@ -1,15 +1,13 @@
 -- The answers that can come out of the program, and their steps.
-use Rattle.std.specs.Prelude.{Ok, Err}
-use Rattle.table.specs.declared.Fault.{Fault}
-use Rattle.std.specs.Prelude.{ℕ, ◌≤◌, ◌≡◌, refl, List, [], ◌∷◌}
+use Rattle.std.specs.Prelude.{ℕ, ◌≤◌, ◌≡◌, refl, List, [], ◌∷◌, Ok, Err}
 use Rattle.std.proofs.Common.{arith, subst}
 use Rattle.std.proofs.lemmas.Bool.{false≢true}
 use mathlib.Core.List.{Memᴰ as Mem}
 use Rattle.theory.specs.Table.{has}
 use Rattle.theory.proofs.Table.Actions.{has-mem, mem_has}
 use Rattle.lines.specs.Basics.{impossible}
-use Rattle.table.specs.Check.{numbers}
-use Rattle.table.specs.Check.{Check}
+use Rattle.table.specs.Check.{Check, numbers}
+use Rattle.table.specs.declared.Fault.{Fault}
 use Rattle.sheet.specs.Reads.{Reads}
 use Rattle.judge.specs.Judge.{JudgesUpTo}
 use Rattle.judge.specs.Judge.Demands.{refusal_steps}

@@ -8,25 +8,30 @@ use Rattle.lines.specs.Basics.{all_nil, all_cons, never, impossible}
 use Rattle.sheet.specs.Sheet.{newline, NoLf}
 use Rattle.input.specs.Box.{Ended, OneLine, LastLine, put_byte, cut_last}
 
+-- one byte is one line
+pub single : (b : ℕ) → OneLine (b ∷ [])
+single b = at (eqb b newline) refl
+  where
+    at : (t : Bool) → eqb b newline ≡ t → OneLine (b ∷ [])
+    at true p = inr ([], all_nil (λ c. c ≡ newline → ⊥), ap (λ (x : ℕ). x ∷ []) (eqb-true b newline p))
+    at false p = inl (all_cons (λ c. c ≡ newline → ⊥) (eqb-false b newline p) (all_nil (λ c. c ≡ newline → ⊥)))
+
+-- a byte that is no LF makes one line longer
+pub longer : (b : ℕ) (l : List ℕ) → (b ≡ newline → ⊥) → OneLine l → OneLine (b ∷ l)
+longer b l h (inl n) = inl (all_cons (λ c. c ≡ newline → ⊥) h n)
+longer b l h (inr (m, n, e)) = inr (b ∷ m, all_cons (λ c. c ≡ newline → ⊥) h n, ap (λ (x : List ℕ). b ∷ x) e)
+
 -- one byte more before lines that are cut before the last one
 put_byte_law : (b : ℕ) (bs s l : List ℕ) → LastLine bs s l → LastLine (b ∷ bs) (put_byte b s l).0 (put_byte b s l).1
 unfolding put_byte
 put_byte_law b bs [] [] h = record {
   joined = ap (λ (x : List ℕ). b ∷ x) h.joined;
   ended = inl refl;
-  one = single (eqb b newline) refl;
+  one = single b;
   filled = λ e. refl;
 }
-  where
-    single : (t : Bool) → eqb b newline ≡ t → OneLine (b ∷ [])
-    single true p = inr ([], all_nil (λ c. c ≡ newline → ⊥), ap (λ (x : ℕ). x ∷ []) (eqb-true b newline p))
-    single false p = inl (all_cons (λ c. c ≡ newline → ⊥) (eqb-false b newline p) (all_nil (λ c. c ≡ newline → ⊥)))
 put_byte_law b bs [] (c ∷ l) h = at (eqb b newline) refl
   where
-    longer : (eqb b newline ≡ false) → OneLine (c ∷ l) → OneLine (b ∷ (c ∷ l))
-    longer p (inl n) = inl (all_cons (λ c. c ≡ newline → ⊥) (eqb-false b newline p) n)
-    longer p (inr (m, n, e)) = inr (b ∷ m, all_cons (λ c. c ≡ newline → ⊥) (eqb-false b newline p) n, ap (λ (x : List ℕ). b ∷ x) e)
-
     at : (t : Bool) → eqb b newline ≡ t → LastLine (b ∷ bs) (put_byte b [] (c ∷ l)).0 (put_byte b [] (c ∷ l)).1
     at true p = rw (p, put_byte) (record {
       joined = ap (λ (x : List ℕ). b ∷ x) h.joined;
@@ -37,7 +42,7 @@ put_byte_law b bs [] (c ∷ l) h = at (eqb b newline) refl
     at false p = rw (p, put_byte) (record {
       joined = ap (λ (x : List ℕ). b ∷ x) h.joined;
       ended = inl refl;
-      one = longer p h.one;
+      one = longer b (c ∷ l) (eqb-false b newline p) h.one;
       filled = λ e. never cc;
     })
 put_byte_law b bs (c ∷ s) l h = record {

@@ -1,8 +1,9 @@
 -- Sizes of sheets: a sheet has as many LFs as lines, and at least twice as many bytes as numbers. So no number of a table lacks room where the
 -- numbers are at least half the bytes.
-use Rattle.std.specs.Prelude.{ℕ, suc, ◌*◌, ◌≤◌, ◌≡◌, refl, true, false, ◌⊎◌, List, [], ◌∷◌, ◌++◌, length, eqb}
+use Rattle.std.specs.Prelude.{ℕ, suc, ◌*◌, ◌≤◌, ◌≡◌, refl, false, ◌⊎◌, List, [], ◌∷◌, ◌++◌, length, eqb, cond, count_by}
 use Rattle.std.proofs.Common.{arith, sym, ap, ◌∙◌, inl, inr, length-append, ne_eqb}
 use Rattle.std.proofs.lemmas.Bool.{false≢true}
+use Rattle.std.proofs.lemmas.List.Sums.{sum_by-cons}
 use mathlib.Core.List.Memᴰ.{head as Mem·head}
 use mathlib.Core.List.Memᴰ.{tail as Mem·tail}
 use Rattle.theory.specs.Table.{Table}
@@ -21,20 +22,21 @@ use Rattle.sheet.specs.Reads.{SheetOf}
 use Rattle.input.specs.Box.{Box, small_box, large_box, Input, numbers_of}
 
 -- the number of LFs
-unfoldable pub line_count : List ℕ → ℕ
-line_count [] = 0
-line_count (b ∷ bs) = elim (eqb b newline) [ true ↦ suc (line_count bs) | false ↦ line_count bs ]
+abbrev pub line_count : List ℕ → ℕ
+line_count bs = count_by (λ b. eqb b newline) bs
 
 -- ---- lines
 
 -- a line's LF is its only one
 count_line : (l rest : List ℕ) → NoLf l → line_count (l ++ (newline ∷ rest)) ≡ suc (line_count rest)
-unfolding line_count
-count_line [] rest n = refl
-count_line (c ∷ l) rest n = rw (ne_eqb c newline (n c (Mem·head refl)), line_count) (count_line l rest (λ x m. n x (Mem·tail m)))
+count_line [] rest n = let h = sum_by-cons (λ b. cond (eqb b newline) 1 0) newline rest in omega arith
+count_line (c ∷ l) rest n =
+    let h = sum_by-cons (λ b. cond (eqb b newline) 1 0) c (l ++ (newline ∷ rest)) in
+    let k = rw (ne_eqb c newline (n c (Mem·head refl))) at h in
+    omega (arith, count_line l rest (λ x m. n x (Mem·tail m)))
 
 count_lines : (d : Draft) (ls : List (List ℕ)) → All Short ls → line_count (print_from d ls) ≡ length ls
-unfolding line_count print_from
+unfolding print_from
 count_lines d [] h = refl
 count_lines d (l ∷ ls) h =
     let s = all_head Short h in
