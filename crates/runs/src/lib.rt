@@ -38,6 +38,17 @@ pub fn field(s: &[u8], at: usize) -> Found
     }
 }
 
+// The place of the first such byte.
+fn first(s: &[u8], byte: u8) -> Option<usize>
+    ensures within { IfSome result (λ at. at < length s.now) }
+    ensures before { MatchOption result
+        ((k : ℕ) → k < length s.now → slice_index s.now k ≢ byte)
+        (λ at. (k : ℕ) → k < at → slice_index s.now k ≢ byte) }
+    ensures found { IfSome result (λ at. slice_index s.now at ≡ byte) }
+{
+    s.iter().position(|b| *b == byte)
+}
+
 // The place of the first such byte from a place on.
 pub fn find(s: &[u8], from: usize, byte: u8) -> Option<usize>
     ensures from { IfSome result (λ at. from ≤ at) }
@@ -47,7 +58,9 @@ pub fn find(s: &[u8], from: usize, byte: u8) -> Option<usize>
         (λ at. (k : ℕ) → from ≤ k → k < at → slice_index s.now k ≢ byte) }
     ensures found { IfSome result (λ at. slice_index s.now at ≡ byte) }
 {
-    (from..s.len()).find(|k| s[*k] == byte)
+    let start = from.min(s.len());
+    let at = first(&s[start..], byte)?;
+    Some(start + at)
 }
 
 // The lowest 16 bits of a number.

@@ -18,13 +18,21 @@ pub(crate) fn sheet_of(s: &[u8], at: usize, parts: usize, sheet: &mut [u8]) -> F
 {
     let mut made = Found { value: 0, next: at };
     for _ in 0..parts {
+        if s.len() <= made.next {
+            break;
+        }
         let times = field(s, made.next);
         let count = field(s, times.next);
         let from = count.next.min(s.len());
         let end = from.saturating_add(count.value).min(s.len());
         let bytes = &s[from..end];
         for _ in 0..times.value {
-            made.value += put(bytes, &mut sheet[made.value..]);
+            let more = put(bytes, &mut sheet[made.value..]);
+            if more == 0 {
+                // No bytes, or no place: the times that are left add none either.
+                break;
+            }
+            made.value += more;
         }
         made.next = end.saturating_add(1).min(s.len());
     }

@@ -26,13 +26,20 @@ pub(crate) fn table_of(s: &[u8], at: usize, parts: usize, table: &mut [u16]) -> 
 {
     let mut made = Found { value: 0, next: at };
     for _ in 0..parts {
+        if s.len() <= made.next {
+            break;
+        }
         let times = field(s, made.next);
         let count = field(s, times.next);
         made.next = count.next;
         for _ in 0..times.value {
             let part = put(s, count.next, count.value, &mut table[made.value..]);
-            made.value += part.value;
             made.next = part.next;
+            if part.value == 0 {
+                // No numbers, or no place: the times that are left add none either.
+                break;
+            }
+            made.value += part.value;
         }
     }
     made
