@@ -8,16 +8,14 @@ use runs::{Found, field, low};
 fn put(s: &[u8], from: usize, count: usize, table: &mut [u16]) -> Found
     ensures { result.value ≤ length table.old }
 {
+    let value = count.min(table.len());
     let mut next = from;
-    for place in table.iter_mut().take(count) {
+    for place in &mut table[..value] {
         let number = field(s, next);
         *place = low(number.value);
         next = number.next;
     }
-    Found {
-        value: count.min(table.len()),
-        next,
-    }
+    Found { value, next }
 }
 
 // Makes a table of the parts from a place on: how many numbers it has, and the place after the parts.
