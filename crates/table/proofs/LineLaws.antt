@@ -3,17 +3,19 @@ use Rattle.std.specs.Prelude.{Option, Some, None, Result, Ok, Err, ok_or}
 use Prim.Native.Nat.{ℕ, suc, ◌+◌, ◌-◌, ◌≤◌, ◌<◌}
 use native.Mathlib.Omega.{arith}
 use native.Mathlib.Decide.{dec_le, dec_lt}
-use mathlib.Core.Path.{◌≡◌, refl, ap, ◌∙◌}
-use mathlib.Core.Bool.{true, false}
-use mathlib.Core.List.{List}
+use mathlib.Core.Path.{◌≡◌, refl, sym, ap, ◌∙◌}
+use mathlib.Core.Bool.{Bool, true, false, ◌&&◌}
+use mathlib.Core.List.{List, []}
 use lib.ListN.{length, get_or, take, drop, length-drop}
 use lib.Seq.{length-take-le}
-use Rattle.lines.specs.Limits.{max_numbers}
+use lib.Dec.{ltb}
+use Rattle.lines.specs.Limits.{max_rules, max_numbers}
 use Rattle.lines.specs.Lines.{is_end, Lined, read_numbers}
 use Rattle.lines.specs.Shape.{fits_due, fits_shape, next_shape, lengths_with, lengths_after, accepted}
 use Rattle.lines.specs.Shape.Accepting.{fit_next, fit_after, misfit_unfit}
 use Rattle.lines.specs.Shape.Shaped.{due_of}
-use Rattle.lines.specs.declared.shape.Due.TheVariants.{End}
+use Rattle.lines.specs.declared.shape.Due.{Due}
+use Rattle.lines.specs.declared.shape.Due.TheVariants.{Terms, Nonterms, Rules, Rule, States, State, Item, Go, End}
 use Rattle.lines.specs.declared.shape.Shape.{Shape}
 use Rattle.table.specs.Lined.{rules_with, states_with}
 use Rattle.table.specs.Walk.{Walked}
@@ -30,10 +32,39 @@ err_given {A} {E} {o} {d} {e} v n = ap told (v ∙ ap (λ (x : Option A). ok_or 
 
 -- ---- one line
 
+-- a line without numbers fits nowhere
+pub empty_unfit : (s : Shape) (ls : List ℕ) → fits_shape s ls [] ≡ false
+unfolding fits_due
+empty_unfit s ls = go s.due refl
+  where
+    no_rule : (b : Bool) → (b && false) ≡ false
+    no_rule true = refl
+    no_rule false = refl
+
+    go : (w : Due) → s.due ≡ w → fits_shape s ls [] ≡ false
+    go Terms e = rw (e, fits_due) refl
+    go Nonterms e = rw (e, fits_due) refl
+    go Rules e = rw (e, fits_due) refl
+    go Rule e = rw (e, fits_due) (no_rule (ltb s.rules max_rules))
+    go States e = rw (e, fits_due) refl
+    go State e = rw (e, fits_due) refl
+    go Item e = rw (e, fits_due) refl
+    go Go e = rw (e, fits_due) refl
+    go End e = rw (e, fits_due) refl
+
 -- where none is due no line fits
 pub end_unfit : (s : Shape) (ls xs : List ℕ) → s.due ≡ End → fits_shape s ls xs ≡ false
 unfolding fits_due
 end_unfit s ls xs e = rw (e, fits_due) refl
+
+-- a place has a whole line or none
+pub whole_or_not : (ns : List ℕ) (p : ℕ) → Dec (Whole ns p)
+whole_or_not ns p = go (dec_lt p (length ns)) (dec_le (get_or ns p 0) (length ns - (p + 1)))
+  where
+    go : Dec (p < length ns) → Dec (get_or ns p 0 ≤ length ns - (p + 1)) → Dec (Whole ns p)
+    go (yes a) (yes b) = yes (a, b)
+    go (yes a) (no b) = no (λ h. b h.1)
+    go (no a) d = no (λ h. a h.0)
 
 -- a whole line has as many numbers as its count says
 pub numbers_long : (ns : List ℕ) (p : ℕ) → Whole ns p → {xs : List ℕ} → xs ≡ numbers_at ns p → length xs ≡ get_or ns p 0
@@ -78,6 +109,14 @@ module _ {ns : List ℕ} {p line : ℕ} {s : Shape} {lengths ra sa : List ℕ} (
   pub line-unfit : length ns ≤ max_numbers → Whole ns p → (xs : List ℕ) → xs ≡ numbers_at ns p → fits_shape s lengths xs ≡ false →
       read_numbers ns ≡ Lined.unfit line
   line-unfit few w xs q f = walk_unfit h w.0 few w.1 xs q (misfit_unfit s lengths xs f)
+
+  -- no number stands there, where a line is due: no whole line, or one of count 0
+  pub line-none : length ns ≤ max_numbers → (Whole ns p → get_or ns p 0 ≡ 0) → is_end (due_of s.due) ≡ false → read_numbers ns ≡ Lined.unfit line
+  line-none few z e = go (whole_or_not ns p)
+    where
+      go : Dec (Whole ns p) → read_numbers ns ≡ Lined.unfit line
+      go (yes w) = line-unfit few w [] (sym (ap (λ (m : ℕ). take m (drop (suc p) ns)) (z w))) (empty_unfit s lengths)
+      go (no w) = line-broken few w e
 
   -- the line is accepted
   pub line-next : Whole ns p → (xs : List ℕ) → xs ≡ numbers_at ns p → (s' : Shape) → accepted s lengths xs ≡ Some s' →

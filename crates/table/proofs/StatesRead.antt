@@ -40,6 +40,7 @@ pub record StateLine (ns : List ℕ) (p : ℕ) (xs : List ℕ) : Type 0 where
   pub two : length xs ≡ 2
   pub inside : p + 2 < length ns
   pub items : at xs 0 ≡ get_or ns (p + 1) 0
+  pub gos : at xs 1 ≡ get_or ns (p + 2) 0
   pub some : 1 ≤ at xs 0
 
 -- so is every state line that fits
@@ -48,11 +49,14 @@ state_line {ns} {p} w xs q f =
     let (i, l, v, b, d) = state_says xs f in
     let line : LineAt ns p (i ∷ l ∷ []) = subst (LineAt ns p) (sym q ∙ v) (line_at ns p (get_or ns p 0) (let (x, y) = w in omega arith) refl) in
     let first : get_or ns (p + 1 + 0) 0 ≡ i = line.numbers 0 (omega arith) in
+    let second : get_or ns (p + 1 + 1) 0 ≡ l = line.numbers 1 (omega arith) in
     let y : p + 1 + 0 ≡ p + 1 = omega arith in
+    let z : p + 1 + 1 ≡ p + 2 = omega arith in
     record {
       two = ap (λ (o : List ℕ). length o) v;
       inside = line.inside;
       items = ap (λ (o : List ℕ). at o 0) v ∙ (sym first ∙ ap (λ (o : ℕ). get_or ns o 0) y);
+      gos = ap (λ (o : List ℕ). at o 1) v ∙ (sym second ∙ ap (λ (o : ℕ). get_or ns o 0) z);
       some = let r : at xs 0 ≡ i = ap (λ (o : List ℕ). at o 0) v in let m = b.0 in omega arith;
     }
 
@@ -127,6 +131,7 @@ module _ {ns lengths : List ℕ} (z : Sizes) (from : Reached) where
 -- where the reading of the states has come to: the first s states were read, their places are noted, and the sets of their items
 pub record StatesDone (ns lengths : List ℕ) (z : Sizes) (from : Reached) (places₀ sets₀ places sets : List ℕ) (to : Reached) (s : ℕ) : Type 0 where
   pub inside : Inside ns to
+  pub states : s ≤ z.states
   pub places_long : length places ≡ max_states
   pub sets_long : length sets ≡ length sets₀
   pub noted : StatesSets ns z.terms places s to.at sets
@@ -167,6 +172,7 @@ module _ {ns lengths : List ℕ} {z : Sizes} {from : Reached} {places₀ sets₀
   pub states_none : Inside ns from → length places₀ ≡ max_states → StatesDone ns lengths z from places₀ sets₀ places₀ sets₀ from 0
   states_none r e = record {
     inside = r;
+    states = omega arith;
     places_long = e;
     sets_long = refl;
     noted = λ u i. impossible (omega arith);
@@ -199,6 +205,7 @@ module _ {ns lengths : List ℕ} {z : Sizes} {from : Reached} {places₀ sets₀
         let m = d.places_long in
         record {
           inside = r.inside;
+          states = omega arith;
           places_long = n ∙ m;
           sets_long = w.long ∙ d.sets_long;
           noted = sets_more ns z.terms s to.at o.at places sets after (omega arith) (omega arith) d.noted w;
