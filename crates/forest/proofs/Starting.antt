@@ -57,7 +57,7 @@ module _ {w go : List ℕ} {C m : ℕ} {t : Table} {a : ℕ} (K : CanStart w go 
         (record { C = C; F = nothing; held = (emptied-first v empty).held; room = omega (arith, size-nothing, row_len, K.room) })
 
     -- the room holds the one-node trees of the token
-    held_long : (u : List ℕ) → Extends v row u → Becomes w u C (long t a)
+    pub held_long : (u : List ℕ) → Extends v row u → Becomes w u C (long t a)
     held_long u X =
         let O = emptied-first v empty in
         let B = subst (λ (l : List ℕ). Extends v l u) is-row X C nothing O.held (omega (arith, size-nothing, row_len, K.room)) in
