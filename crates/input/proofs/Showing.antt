@@ -8,6 +8,7 @@ use mathlib.Core.List.{List, [], ◌∷◌, ◌++◌, append_assoc}
 use lib.ListN.{length, take, drop, length-append}
 use lib.Seq.{length-take-le, take_at, drop_at, drop-drop}
 use borrow.Author.Tests.{lt-ltb, le-ltb}
+use Rattle.io.specs.Counts.{IsPrefixLen}
 use Rattle.io.specs.Digits.{hex_digit_ascii, last_digits, IsDigitCount}
 use Rattle.lines.specs.Basics.{impossible}
 use Rattle.sheet.specs.Sheet.{digit0, newline, digits_within, in_front}
@@ -77,7 +78,7 @@ line_put {out} {out₁} {out₂} {out₃} {key} {at = at} {a = a} {b = b} {r = r
 -- the three lines at the front
 pub three_put : {out out₁ out₂ out₃ : List ℕ} {a b r : ℕ} (j : Judgement) → Put out 0 (shown_line (ascii "answer=") j.answer) a out₁ →
     Put out₁ a (shown_line (ascii "value=") j.value) b out₂ → Put out₂ b (shown_line (ascii "steps=") j.steps) r out₃ →
-    (r ≡ length (three_lines j)) × (out₃ ≡ in_front (three_lines j) out)
+    IsPrefixLen r out₃ × ((r ≡ length (three_lines j)) × (out₃ ≡ in_front (three_lines j) out))
 unfolding three_lines ascii
 three_put {out} {out₃ = out₃} {r = r} j p q s =
     let answer = shown_line (ascii "answer=") j.answer in
@@ -87,4 +88,8 @@ three_put {out} {out₃ = out₃} {r = r} j p q s =
     subst (λ (x : List ℕ). Put out 0 x r out₃) (append_assoc answer value steps)
     (put_then (omega arith) (put_then (omega arith) p q) s) in
     let from_zero = zero-add (length (three_lines j)) in
-    (omega (arith, z.its_end), z.its_bytes ∙ ap (λ (i : ℕ). three_lines j ++ drop i out) from_zero)
+    let e : r ≡ length (three_lines j) = omega (arith, z.its_end) in
+    let text : out₃ ≡ in_front (three_lines j) out = z.its_bytes ∙ ap (λ (i : ℕ). three_lines j ++ drop i out) from_zero in
+    let n = ap (λ (x : List ℕ). length x) text ∙ length-append (three_lines j) (drop (length (three_lines j)) out) in
+    let k : r ≤ length out₃ = omega arith in
+    ((k, sym (length-take-le r out₃ k)), (e, text))

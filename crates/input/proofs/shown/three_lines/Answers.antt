@@ -6,9 +6,9 @@ use Rattle.input.proofs.shown.three_lines.Goals as goal
 pub returns-clause-end : goal.returns-clause-end
 unfolding ascii
 returns-clause-end c =
-    (three_put c.args.j c.put_line-a.ensures.line c.put_line-b.ensures.line c.put_line.ensures.line).0
+    (three_put c.args.j c.put_line-a.ensures.line c.put_line-b.ensures.line c.put_line.ensures.line).1.0
 
 pub returns-clause-text : goal.returns-clause-text
 unfolding ascii
 returns-clause-text c =
-    (three_put c.args.j c.put_line-a.ensures.line c.put_line-b.ensures.line c.put_line.ensures.line).1
+    (three_put c.args.j c.put_line-a.ensures.line c.put_line-b.ensures.line c.put_line.ensures.line).1.1
