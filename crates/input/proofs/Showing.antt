@@ -89,7 +89,8 @@ three_put {out} {out₃ = out₃} {r = r} j p q s =
     (put_then (omega arith) (put_then (omega arith) p q) s) in
     let from_zero = zero-add (length (three_lines j)) in
     let e : r ≡ length (three_lines j) = omega (arith, z.its_end) in
-    let text : out₃ ≡ in_front (three_lines j) out = z.its_bytes ∙ ap (λ (i : ℕ). three_lines j ++ drop i out) from_zero in
+    let text : out₃ ≡ in_front (three_lines j) out =
+    z.its_bytes ∙ ap (λ (i : ℕ). three_lines j ++ drop i out) from_zero in
     let n = ap (λ (x : List ℕ). length x) text ∙ length-append (three_lines j) (drop (length (three_lines j)) out) in
     let k : r ≤ length out₃ = omega arith in
     ((k, sym (length-take-le r out₃ k)), (e, text))

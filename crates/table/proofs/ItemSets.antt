@@ -65,10 +65,12 @@ place_next ns from k p n e q =
 module _ {ns : List ℕ} {t from k p : ℕ} {before after : List ℕ} (h : SetsTo ns t from k p before after) (here : p ≡ line_place ns from k) where
   -- one item more
   pub sets_more : {n v : ℕ} {next : List ℕ} → from ≤ p → (xs : List ℕ) → 3 ≤ n → xs ≡ numbers_at ns p →
-      SetOf (λ a. Mem a (drop 2 xs)) (suc t) v → next ≡ set after (p / 4) v → SetsTo ns t from (k + 1) (p + (1 + n)) before next
+      SetOf (λ a. Mem a (drop 2 xs)) (suc t) v → next ≡ set after (p / 4) v →
+      SetsTo ns t from (k + 1) (p + (1 + n)) before next
   sets_more {n} {v} {next} past xs some q sets w = record {
     long = long ∙ h.long;
-    each = below_more _ _ (λ i l. let (a, b) = h.each i l in (old i a b, omega arith)) (subst (λ y. SetIn ns t next y × (y + 4 ≤ p + (1 + n))) here (new, omega arith));
+    each = below_more _ _ (λ i l. let (a, b) = h.each i l in (old i a b, omega arith))
+        (subst (λ y. SetIn ns t next y × (y + 4 ≤ p + (1 + n))) here (new, omega arith));
     kept = λ y l. kept y (omega arith) ∙ h.kept y l;
   }
     where

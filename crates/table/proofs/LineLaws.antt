@@ -111,7 +111,8 @@ module _ {ns : List ℕ} {p line : ℕ} {s : Shape} {lengths ra sa : List ℕ} (
   line-unfit few w xs q f = walk_unfit h w.0 few w.1 xs q (misfit_unfit s lengths xs f)
 
   -- no number stands there, where a line is due: no whole line, or one of count 0
-  pub line-none : length ns ≤ max_numbers → (Whole ns p → get_or ns p 0 ≡ 0) → is_end (due_of s.due) ≡ false → read_numbers ns ≡ Lined.unfit line
+  pub line-none : length ns ≤ max_numbers → (Whole ns p → get_or ns p 0 ≡ 0) → is_end (due_of s.due) ≡ false →
+      read_numbers ns ≡ Lined.unfit line
   line-none few z e = go (whole_or_not ns p)
     where
       go : Dec (Whole ns p) → read_numbers ns ≡ Lined.unfit line

@@ -106,11 +106,13 @@ module _ {ns lengths : List ℕ} (z : Sizes) (from : Reached) where
       both j h = (g j gos).on (state_on j h)
 
       -- a go line does not
-      pub gos-stop : {e : Unread} → ((j : ℕ) → Stops ns lengths (in_state z j 0 gos 0) after e) → (j : ℕ) → Stops ns lengths (in_state z (suc j) 0 0 0) from e
+      pub gos-stop : {e : Unread} → ((j : ℕ) → Stops ns lengths (in_state z j 0 gos 0) after e) → (j : ℕ) →
+          Stops ns lengths (in_state z (suc j) 0 0 0) from e
       gos-stop i j = record { stop = λ h. (i j).stop (both j h) }
 
       -- and all go lines
-      pub gos-on : {to : Reached} → ((j : ℕ) → Goes ns lengths (in_state z j 0 gos 0) (in_state z j 0 0 0) after to) → StateGoes ns lengths z from to
+      pub gos-on : {to : Reached} → ((j : ℕ) → Goes ns lengths (in_state z j 0 gos 0) (in_state z j 0 0 0) after to) →
+          StateGoes ns lengths z from to
       gos-on i = record { on = λ j l h. (i j).on (both j h) }
 
       -- the go lines decide
