@@ -162,13 +162,17 @@ module _ {bs : List ℕ} {shape : Shape} {lengths kept rest : List ℕ} {line w 
             let f : take (w + 1) kept ≡ s.front ++ (get_or kept w 0 ∷ []) =
             ap (λ (k : ℕ). take k kept) (add-one w) ∙ take-suc kept w 0 r.0 ∙
             ap (λ (x : List ℕ). x ++ (get_or kept w 0 ∷ [])) s.held in
-            let q : held ++ more ≡ xs ++ (drop (length xs) before ++ more) =
+            let k : length s.front + 1 + n ≡ length (s.front ++ (n ∷ xs)) = simp length-append (omega arith) in
+            let behind : List ℕ = drop (length xs) before ++ more in
+            let q : held ++ more ≡ xs ++ behind =
             ap (λ (x : List ℕ). x ++ more) (t.placed ∙ ap (λ (x : List ℕ). x ++ drop (length x) before) (sym i)) ∙
             append_assoc xs (drop (length xs) before) more in
             (λ j. take (s.placed j + 1 + n) (set (p j) (s.placed j) n)) ∙
             (λ j. take (length s.front + 1 + n) (set (f j ++ q j) (length s.front) n)) ∙
-            put_count s.front (get_or kept w 0) n xs (drop (length xs) before ++ more) c ∙
-            ap (λ (k : ℕ). s.front ++ (k ∷ xs)) c
+            ap (take (length s.front + 1 + n))
+            (put_count s.front (get_or kept w 0) n xs behind ∙ sym (append_assoc s.front (n ∷ xs) behind)) ∙
+            take_at (s.front ++ (n ∷ xs)) behind (length s.front + 1 + n) (sym k) ∙
+            ap (λ (m : ℕ). s.front ++ (m ∷ xs)) c
 
         -- the line that is due is taken in
         pub scanning_next : {then : Shape} {those : List ℕ} → fits_shape shape lengths xs ≡ true →

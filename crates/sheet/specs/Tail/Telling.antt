@@ -87,12 +87,12 @@ module _ (rest : List ℕ) {xs : List ℕ} {n top : ℕ} (t : Tallied n top xs) 
 -- ---- the key
 
 -- the line has another key
-tail_other : (line : List ℕ) → ((v : List ℕ) → line ≡ opening tail_key ++ v → ⊥) → tail_of line ≡ none
+pub tail_other : (line : List ℕ) → ((v : List ℕ) → line ≡ opening tail_key ++ v → ⊥) → tail_of line ≡ none
 unfolding tail_of alone
 tail_other line n = ap alone (keyed-other tail_key line (after-other (opening tail_key) line n))
 
 -- it has the key: its value stands behind it
-tail_behind : (line v : List ℕ) → line ≡ opening tail_key ++ v → tail_of line ≡ alone (value_of v)
+pub tail_behind : (line v : List ℕ) → line ≡ opening tail_key ++ v → tail_of line ≡ alone (value_of v)
 unfolding tail_of all
 tail_behind line v e =
     ap alone (keyed-value tail_key line v refl (ap (after (opening tail_key)) e ∙ after_front (opening tail_key) v))

@@ -1,7 +1,7 @@
 -- Laws of the array that numbers are kept in: one number more, a line's count before its numbers.
 use Rattle.std.specs.Prelude.{ℕ, suc, ◌+◌, ◌%◌, ◌≤◌, ◌<◌, max, ◌≡◌, refl, List, [], ◌∷◌, ◌++◌}
-use Rattle.std.specs.Prelude.{length, take, drop, get_or, set}
-use Rattle.std.proofs.Common.{arith, add-one, sym, ap, ◌∙◌, append_assoc, length-append, drop-cons, take_at}
+use Rattle.std.specs.Prelude.{length, drop, get_or, set}
+use Rattle.std.proofs.Common.{arith, add-one, sym, ap, ◌∙◌, append_assoc, length-append, drop-cons}
 use Rattle.std.proofs.lemmas.List.{set_at}
 use Rattle.sheet.specs.Sheet.{in_front}
 use Rattle.sheet.specs.Text.{max_word}
@@ -42,13 +42,9 @@ keeps_more before out n top v more acc h e k = record {
 
 -- ---- a line written at a place
 
--- the count before all numbers
-pub put_count : (front : List ℕ) (x n : ℕ) (line more : List ℕ) → n ≡ length line →
-    take (length front + 1 + n) (set ((front ++ (x ∷ [])) ++ (line ++ more)) (length front) n) ≡ front ++ (n ∷ line)
-put_count front x n line more e =
-    let k : length front + 1 + n ≡ length (front ++ (n ∷ line)) = simp length-append (omega arith) in
-    ap (λ (y : List ℕ). take (length front + 1 + n) (set y (length front) n))
-    (append_assoc front (x ∷ []) (line ++ more)) ∙
-    ap (take (length front + 1 + n)) (set_at front x (line ++ more) n (length front) refl) ∙
-    ap (take (length front + 1 + n)) (sym (append_assoc front (n ∷ line) more)) ∙
-    take_at (front ++ (n ∷ line)) more (length front + 1 + n) (sym k)
+-- the count before all numbers: what comes after them stays
+pub put_count : (front : List ℕ) (x n : ℕ) (line more : List ℕ) →
+    set ((front ++ (x ∷ [])) ++ (line ++ more)) (length front) n ≡ front ++ (n ∷ (line ++ more))
+put_count front x n line more =
+    ap (λ (y : List ℕ). set y (length front) n) (append_assoc front (x ∷ []) (line ++ more)) ∙
+    set_at front x (line ++ more) n (length front) refl
