@@ -60,7 +60,8 @@ fn digits(s: &[u8]) -> (usize, u32)
 }
 
 // The number that bytes begin with, and what comes after it. Its form: 1 to 5 digits, no leading zero except 0 itself.
-fn number(s: &[u8]) -> Option<(u32, &[u8])>
+// Crate-wide so that the edit `tail_form_as_range` can ask it.
+pub(crate) fn number(s: &[u8]) -> Option<(u32, &[u8])>
     ensures { NumberOf s.now result }
 {
     let (count, value) = digits(s);

@@ -1,4 +1,4 @@
-use Rattle.std.proofs.Common.{length, [], ◌∷◌, ◌++◌, sym, ap, ◌∙◌, arith}
+use Rattle.std.proofs.Common.{length, [], ◌∷◌, ◌++◌, sym, ap, ◌∙◌, arith, rules}
 use Rattle.std.proofs.lemmas.Slice.{between_to_end}
 use Rattle.sheet.specs.Tail.Telling.{telling_start, telling_tally, telling_more, tell_bad}
 use Rattle.sheet.specs.Tail.{alone, told_of}
@@ -33,5 +33,9 @@ loop-value-preserved c =
     let w = c.in-Some in
     telling_more t w.value w.last w.after.now w.ensures.0 w.ensures.1 c.max-top.ensures c.if-last.false
 
+-- searched, so that the refusal may be written in any way that says `Form`
 pub returns : goal.returns
-returns c = tell_bad (value_of c.args.s.now) (reading_bad c.loop-value.invariant.reading c.in_default-word.ensures)
+returns c =
+    let s = c.args.s.now in
+    let e = tell_bad (value_of s) (reading_bad c.loop-value.invariant.reading c.in_default-word.ensures) in
+    search (rules, e)

@@ -1,4 +1,4 @@
-use Rattle.std.proofs.Common.{length, arith}
+use Rattle.std.proofs.Common.{length, arith, rules}
 use Rattle.std.proofs.lemmas.Slice.{between_to_end}
 use Rattle.sheet.specs.Text.Readings.{reading_bad, keeping_start, keeping_more, told_empty, told_small, told_wide}
 use Rattle.sheet.proofs.text.numbers.Goals as goal
@@ -34,5 +34,6 @@ loop-value-preserved c =
     let w = c.in-Some in
     keeping_more k c.requires w.value w.last w.after.now w.ensures.0 w.ensures.1 c.max-top.ensures c.if-last.false
 
+-- searched, so that the refusal may be written in any way that says `Form`
 pub returns : goal.returns
-returns c = reading_bad c.loop-value.invariant.reading c.in_default-word.ensures
+returns c = let e = reading_bad c.loop-value.invariant.reading c.in_default-word.ensures in search (rules, e)
