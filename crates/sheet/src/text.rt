@@ -76,7 +76,7 @@ pub(crate) fn number(s: &[u8]) -> Option<(u32, &[u8])>
 
 // The number that bytes begin with, whether the LF comes after it or a space, and what comes after that.
 // The three are taken apart where they are used, at two places.
-// Inlined: a call hands the three over in memory, which took 20 more instructions for each token of a tail.
+// Inlined: left to the compiler it was a call, of 20 more instructions for each token of a tail.
 #[inline(always)]
 pub(crate) fn word(s: &[u8]) -> Option<(u32, bool, &[u8])>
     ensures { WordOf s.now result }
