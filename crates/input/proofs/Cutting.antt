@@ -1,6 +1,6 @@
 -- The cut before the last line.
 use Rattle.std.proofs.Common.{◌≡◌, ℕ, suc, ◌+◌, ◌<◌, ◌≤◌, List, [], ◌∷◌, ◌++◌, length, get_or, take, drop}
-use Rattle.std.proofs.Common.{refl, sym, ap, ◌∙◌, inl, inr, arith, length-drop, length-append}
+use Rattle.std.proofs.Common.{sym, ap, subst, ◌∙◌, inl, inr, arith, length-drop, length-append}
 use Rattle.std.proofs.lemmas.List.{take_more, get_or-drop, get_or_append_left}
 use lib.ListN.{take-append-drop}
 use Rattle.lines.specs.Basics.{all_nil, impossible}
@@ -22,13 +22,14 @@ module _ (bs front : List ℕ) (x : ℕ) (e : bs ≡ front ++ (x ∷ [])) where
   before : (k : ℕ) → k + 1 < length bs → get_or bs k 0 ≡ get_or front k 0
   before k h = ap (λ (l : List ℕ). get_or l k 0) e ∙ get_or_append_left front (x ∷ []) 0 k (omega (arith, long))
 
-  -- with no LF before the last byte all bytes are the last line
-  pub all_one : ((k : ℕ) → k < length front → get_or front k 0 ≡ newline → ⊥) → LastLine bs [] bs
-  all_one none = record {
-    joined = refl;
-    ended = inl refl;
-    one = one_line bs (λ k h n. none k (omega (arith, long)) (sym (before k h) ∙ n));
-    filled = λ z. refl;
+  -- with no LF before the last byte all bytes are the last line, and none stand before it
+  pub all_one : ((k : ℕ) → k < length front → get_or front k 0 ≡ newline → ⊥) →
+      (s l : List ℕ) → s ≡ [] → l ≡ bs → LastLine bs s l
+  all_one none s l y z = record {
+    joined = sym z ∙ ap (λ (v : List ℕ). v ++ l) (sym y);
+    ended = inl y;
+    one = subst OneLine (sym z) (one_line bs (λ k h n. none k (omega (arith, long)) (sym (before k h) ∙ n)));
+    filled = λ e. y;
   }
 
   -- the last line begins after the last LF that stands before the last byte

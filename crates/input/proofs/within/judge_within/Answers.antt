@@ -2,7 +2,7 @@
 use Rattle.std.proofs.Common.{sym, rules}
 use lib.Seq.{length-take-le}
 use Rattle.input.specs.Box.{Boxes, LastLine}
-use Rattle.input.proofs.Boxing.{boxes_unread, numbers_there, boxes_tailed}
+use Rattle.input.proofs.Boxing.{numbers_there, boxes_tailed}
 use Rattle.input.proofs.within.judge_within.Goals as goal
 
 pub returns-then-most-bytes : goal.returns-then-most-bytes
@@ -21,10 +21,3 @@ returns-in-Ok c =
     let L : LastLine a.bytes.now c.split_at.result.0.now c.split_at.result.1.now = search rules in
     boxes_tailed a.most a.table.now a.tail.now a.room.now a.bytes.now c.if-most-bytes.false L
     c.in-Ok.count c.in-Ok.ensures c.after_sheet.ensures
-
-pub returns-in-Err : goal.returns-in-Err
-returns-in-Err c =
-    let a = c.args in
-    let L : LastLine a.bytes.now c.split_at.result.0.now c.split_at.result.1.now = search rules in
-    rw c.from.ensures
-    (boxes_unread a.most a.table.now a.tail.now a.room.now a.bytes.now c.if-most-bytes.false L c.in-Err.error c.in-Err.ensures)
