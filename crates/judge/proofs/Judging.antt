@@ -127,14 +127,14 @@ module _ {ns tail : List ℕ} (before : List ℕ) {m k : ℕ} (S : SomeReady ns 
   told_judges (stop i n y) = JudgesUpTo.stop S.t i n S.good S.ready y
 
   -- with the words cleared it is the outcome, whatever the run left on them
-  pub ready_into : {j : Judgement} (part : List ℕ) {zeros : List ℕ} → length part ≡ length (take k before) → Said ns tail j → zeros ≡ replicate k 0 →
-      JudgesInto ns tail before j (zeros ++ drop k (part ++ drop k before))
-  ready_into {j} part {zeros} l y e =
+  pub ready_into : {j : Judgement} (part : List ℕ) {after : List ℕ} → length part ≡ length (take k before) →
+      Said ns tail j → after ≡ replicate k 0 ++ drop k (part ++ drop k before) → JudgesInto ns tail before j after
+  ready_into {j} part l y e =
       let z = y S.t S.good in
       record {
         judgement = told_judges z;
         kept = λ h. impossible (omega (arith, told_low z));
-        zeroed = λ h t g. ap (λ (x : List ℕ). x ++ drop k (part ++ drop k before)) e ∙
+        zeroed = λ h t g. e ∙
             ap (λ (x : List ℕ). replicate k 0 ++ x) (drop_at part (drop k before) k (l ∙ length-take-le k before words_there)) ∙
             ap (λ (x : ℕ). cleared x before) (S.called_for ∙ ap (λ (x : ℕ). words x (length tail)) S.states ∙
             ap (λ (u : Table). words (count u) (length tail)) (one_table S.good.its_numbers g.its_numbers));
