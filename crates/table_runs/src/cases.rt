@@ -3,19 +3,40 @@ ghost use Rattle.std.specs.Prelude.{◌≤◌, length};
 
 use runs::{Found, field, low};
 
-// Puts the numbers that stand from a place on at the front of a slice, as far as it reaches: how many, and the place
-// after them.
-fn put(s: &[u8], from: usize, count: usize, table: &mut [u16]) -> Found
-    ensures { result.value ≤ length table.old }
-{
-    let value = count.min(table.len());
+// Puts the numbers that stand from a place on into all places of a slice, and answers the place after them.
+fn put(s: &[u8], from: usize, places: &mut [u16]) -> usize {
     let mut next = from;
-    for place in &mut table[..value] {
+    for place in places {
         let number = field(s, next);
         *place = low(number.value);
         next = number.next;
     }
-    Found { value, next }
+    next
+}
+
+// Puts so many numbers so many times at the front of a slice, as far as it reaches: how many, and the place after
+// those of the last time. In a slice that is full a time takes no number.
+fn put_times(s: &[u8], from: usize, count: usize, times: usize, table: &mut [u16]) -> Found
+    ensures { result.value ≤ length table.old }
+{
+    if count == 0 {
+        return Found {
+            value: 0,
+            next: from,
+        };
+    }
+    let room = table.len();
+    let mut next = from;
+    for places in table.chunks_mut(count).take(times) {
+        next = put(s, from, places);
+    }
+    if room.div_ceil(count) < times {
+        next = from;
+    }
+    Found {
+        value: room.min(count.saturating_mul(times)),
+        next,
+    }
 }
 
 // Makes a table of the parts from a place on: how many numbers it has, and the place after the parts.
@@ -29,16 +50,15 @@ pub(crate) fn table_of(s: &[u8], at: usize, parts: usize, table: &mut [u16]) -> 
         }
         let times = field(s, made.next);
         let count = field(s, times.next);
-        made.next = count.next;
-        for _ in 0..times.value {
-            let part = put(s, count.next, count.value, &mut table[made.value..]);
-            made.next = part.next;
-            if part.value == 0 {
-                // No numbers, or no place: the times that are left add none either.
-                break;
-            }
-            made.value += part.value;
-        }
+        let part = put_times(
+            s,
+            count.next,
+            count.value,
+            times.value,
+            &mut table[made.value..],
+        );
+        made.value += part.value;
+        made.next = part.next;
     }
     made
 }

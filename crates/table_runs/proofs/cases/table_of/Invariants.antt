@@ -4,6 +4,3 @@ use Rattle.table_runs.proofs.cases.table_of.Given as goal
 
 abbrev pub invariant-loop : goal.invariant-loop
 invariant-loop l = l.made.value ≤ length l.table
-
-abbrev pub invariant-loop-2 : goal.invariant-loop-2
-invariant-loop-2 l = l.made.value ≤ length l.table
