@@ -76,7 +76,7 @@ pub(crate) fn number(s: &[u8]) -> Option<(u32, &[u8])>
 
 // The number that bytes begin with, whether the LF comes after it or a space, and what comes after that.
 // The three are taken apart where they are used, at two places.
-// Marked: left to the compiler it was a call, of 20 more instructions for each token of a tail.
+// Marked: left to the compiler it was a call, of 26 more instructions for each token of a tail.
 #[inline]
 pub(crate) fn word(s: &[u8]) -> Option<(u32, bool, &[u8])>
     ensures { WordOf s.now result }

@@ -19,24 +19,23 @@ fn put(s: &[u8], from: usize, places: &mut [u16]) -> usize {
 fn put_times(s: &[u8], from: usize, count: usize, times: usize, table: &mut [u16]) -> Found
     ensures { result.value ≤ length table.old }
 {
-    if count == 0 {
-        return Found {
-            value: 0,
-            next: from,
+    let room = table.len();
+    let all = count.saturating_mul(times);
+    let value = room.min(all);
+    let once = value.min(count);
+    let mut next = put(s, from, &mut table[..once]);
+    for i in once..value {
+        table[i] = table[i - once];
+    }
+    if room < all {
+        let last = room % count;
+        next = if room / count + 1 == times {
+            put(s, from, &mut table[room - last..])
+        } else {
+            from
         };
     }
-    let room = table.len();
-    let mut next = from;
-    for places in table.chunks_mut(count).take(times) {
-        next = put(s, from, places);
-    }
-    if room.div_ceil(count) < times {
-        next = from;
-    }
-    Found {
-        value: room.min(count.saturating_mul(times)),
-        next,
-    }
+    Found { value, next }
 }
 
 // Makes a table of the parts from a place on: how many numbers it has, and the place after the parts.
