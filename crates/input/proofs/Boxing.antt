@@ -28,13 +28,10 @@ use Rattle.input.specs.Parts.{box_of, Tailed}
 
 module _ (ns : List ℕ) (limit : ℕ) (tail : List ℕ) (room : ℕ) where
   -- the check's refusal goes first
-  pub many_refused : (fault : Fault) → Checks ns (Err fault) → JudgesUpTo limit ns tail room (handed (Err fault))
-  many_refused fault h = JudgesUpTo.refused (Err fault) h (no_pass (Err fault) (λ m e. absurd (cc)))
-
-  -- and so does what equals it
-  pub many_told : (r : Judgement) (fault : Fault) → Checks ns (Err fault) → r ≡ handed (Err fault) →
+  pub many_refused : (r : Judgement) (fault : Fault) → Checks ns (Err fault) → r ≡ handed (Err fault) →
       JudgesUpTo limit ns tail room r
-  many_told r fault h e = subst (λ (x : Judgement). JudgesUpTo limit ns tail room x) (sym e) (many_refused fault h)
+  many_refused r fault h e =
+      rw e (JudgesUpTo.refused (Err fault) h (no_pass (Err fault) (λ m e. absurd (cc))))
 
   -- by a table that passes it is 30
   pub many_over : (m : ℕ) → Checks ns (Ok m) → limit < length tail → JudgesUpTo limit ns tail room (refusal 30 limit)
@@ -142,10 +139,11 @@ module _ (most : ℕ) (table tail room bs : List ℕ) where
     its_input = record { not_over = few; its_lines = L }
 
     -- the sheet is refused
-    pub boxes_unread : {after : List ℕ} (e : ReadError) → ReadsInto sheet table (answer_of (Err e)) after →
-        Boxes (box_of most table tail room) bs (handed_read (Err e))
-    boxes_unread e R =
-        Boxes.unread sheet last _ _ its_input (row_of (answer_of (Err e)) (has_number e) R) (has_number e)
+    pub boxes_unread : {after : List ℕ} (r : Judgement) (e : ReadError) →
+        ReadsInto sheet table (answer_of (Err e)) after → r ≡ handed_read (Err e) →
+        Boxes (box_of most table tail room) bs r
+    boxes_unread r e R h =
+        rw h (Boxes.unread sheet last _ _ its_input (row_of (answer_of (Err e)) (has_number e) R) (has_number e))
 
     -- the sheet is read, and the last line decides
     pub boxes_tailed : {after : List ℕ} {j : Judgement} (count : ℕ) → ReadsInto sheet table (answer_of (Ok count)) after →
@@ -155,11 +153,3 @@ module _ (most : ℕ) (table tail room bs : List ℕ) where
         let g : Given (box_of most table tail room) bs last t =
         record { sheet = sheet; input = its_input; its_sheet = s; its_room = l } in
         by_last g (transport (λ i. Tailed (sheet-lines sheet t s i) tail room (e i) last j) h)
-
--- what equals a refusal of the reader is the outcome
-pub unread_told : (most : ℕ) (table tail room bs : List ℕ) {sheet last after : List ℕ} (r : Judgement) →
-    (e : ReadError) → ReadsInto sheet table (answer_of (Err e)) after → length bs ≤ most → LastLine bs sheet last →
-    r ≡ handed_read (Err e) → Boxes (box_of most table tail room) bs r
-unread_told most table tail room bs r e R few L h =
-    let B = boxes_unread most table tail room bs few L e R in
-    subst (λ (x : Judgement). Boxes (box_of most table tail room) bs x) (sym h) B

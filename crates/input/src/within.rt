@@ -12,7 +12,7 @@ use sheet::{TailError, read, read_tail};
 use table::check_table;
 
 // A tail of more tokens than `limit`: the table check's refusal goes before 30.
-#[tactic(auto, using(crate::proofs::Boxing::many_told), unfolding(table::specs::Check::numbers))]
+#[tactic(auto, using(crate::proofs::Boxing::many_refused), unfolding(table::specs::Check::numbers))]
 fn too_many(table: &[u16], limit: usize) -> Judgement
     ensures { (tail : List ℕ) (room : ℕ) → limit < length tail → JudgesUpTo limit table.now tail room result }
 {
@@ -43,7 +43,7 @@ fn after_sheet(
 }
 
 // The whole input, of at most `most` bytes: the sheet is all before the last line and is read first.
-#[tactic(auto, using(crate::proofs::Boxing::unread_told), unfolding(sheet::specs::Reads::answer_of))]
+#[tactic(auto, using(crate::proofs::Boxing::boxes_unread), unfolding(sheet::specs::Reads::answer_of))]
 pub(crate) fn judge_within(
     bytes: &[u8],
     most: usize,

@@ -60,8 +60,7 @@ fn digits(s: &[u8]) -> (usize, u32)
 }
 
 // The number that bytes begin with, and what comes after it. Its form: 1 to 5 digits, no leading zero except 0 itself.
-// Crate-wide so that the edit `tail_form_as_range` can ask it.
-pub(crate) fn number(s: &[u8]) -> Option<(u32, &[u8])>
+fn number(s: &[u8]) -> Option<(u32, &[u8])>
     ensures { NumberOf s.now result }
 {
     let (count, value) = digits(s);
@@ -76,7 +75,7 @@ pub(crate) fn number(s: &[u8]) -> Option<(u32, &[u8])>
 
 // The number that bytes begin with, whether the LF comes after it or a space, and what comes after that.
 // The three are taken apart where they are used, at two places.
-// Marked: left to the compiler it was a call, of 26 more instructions for each token of a tail.
+// Without the mark it is called, not inlined: 26 more instructions for each token of a tail.
 #[inline]
 pub(crate) fn word(s: &[u8]) -> Option<(u32, bool, &[u8])>
     ensures { WordOf s.now result }

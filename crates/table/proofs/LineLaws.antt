@@ -4,7 +4,7 @@ use Prim.Native.Nat.{ℕ, suc, ◌+◌, ◌-◌, ◌≤◌, ◌<◌}
 use native.Mathlib.Omega.{arith}
 use native.Mathlib.Decide.{dec_le, dec_lt}
 use mathlib.Core.Path.{◌≡◌, refl, sym, ap, ◌∙◌}
-use mathlib.Core.Bool.{Bool, true, false, ◌&&◌}
+use mathlib.Core.Bool.{true, false, and-false}
 use mathlib.Core.List.{List, []}
 use lib.ListN.{length, get_or, take, drop, length-drop}
 use lib.Seq.{length-take-le}
@@ -37,15 +37,11 @@ pub empty_unfit : (s : Shape) (ls : List ℕ) → fits_shape s ls [] ≡ false
 unfolding fits_due
 empty_unfit s ls = go s.due refl
   where
-    no_rule : (b : Bool) → (b && false) ≡ false
-    no_rule true = refl
-    no_rule false = refl
-
     go : (w : Due) → s.due ≡ w → fits_shape s ls [] ≡ false
     go Terms e = rw (e, fits_due) refl
     go Nonterms e = rw (e, fits_due) refl
     go Rules e = rw (e, fits_due) refl
-    go Rule e = rw (e, fits_due) (no_rule (ltb s.rules max_rules))
+    go Rule e = rw (e, fits_due) (and-false (ltb s.rules max_rules))
     go States e = rw (e, fits_due) refl
     go State e = rw (e, fits_due) refl
     go Item e = rw (e, fits_due) refl

@@ -15,7 +15,7 @@ fn put(s: &[u8], from: usize, places: &mut [u16]) -> usize {
 }
 
 // Puts so many numbers so many times at the front of a slice, as far as it reaches: how many, and the place after
-// those of the last time. In a slice that is full a time takes no number.
+// those of the last time. They are read once, and copied for the other times.
 fn put_times(s: &[u8], from: usize, count: usize, times: usize, table: &mut [u16]) -> Found
     ensures { result.value ≤ length table.old }
 {
@@ -28,6 +28,7 @@ fn put_times(s: &[u8], from: usize, count: usize, times: usize, table: &mut [u16
         table[i] = table[i - once];
     }
     if room < all {
+        // The time in which the slice gets full takes what is left; a time after it takes no number.
         let last = room % count;
         next = if room / count + 1 == times {
             put(s, from, &mut table[room - last..])

@@ -3,21 +3,24 @@ use Rattle.std.proofs.Common.{arith, ap, ◌∙◌, ℕ, List, ◌≡◌, ◌-�
 use Rattle.std.proofs.lemmas.List.{get_or-drop, take_all, length-drop}
 use Rattle.runs.proofs.find.Goals as goal
 
+-- what is left is all behind the place
+left : (s : List ℕ) (start : ℕ) → take (length s - start) (drop start s) ≡ drop start s
+left s start = take_all _ (drop start s) (omega (arith, length-drop start s))
+
 there : (s : List ℕ) (start k byte : ℕ) → start ≤ k → slice_index s k ≡ byte →
     slice_index (take (length s - start) (drop start s)) (k - start) ≡ byte
 there s start k byte l e =
-    ap (λ xs. slice_index xs (k - start)) (take_all _ (drop start s) (omega (arith, length-drop start s)))
-    ∙ get_or-drop start s (k - start) 0 ∙ ap (λ n. slice_index s n) (omega (arith, l)) ∙ e
+    ap (λ xs. slice_index xs (k - start)) (left s start) ∙ get_or-drop start s (k - start) 0 ∙
+    ap (λ n. slice_index s n) (omega (arith, l)) ∙ e
 
 pub returns-in_err-at-clause-before : goal.returns-in_err-at-clause-before
 returns-in_err-at-clause-before c =
     let s = c.args.s.now in
     let start = c.min-start.result in
+    let n = ap length (left s start) ∙ length-drop start s in
     rw c.from_residual.ensures
-    (λ k l u e.
-    let n : length (take (length s - start) (drop start s)) ≡ length s - start =
-    ap length (take_all _ (drop start s) (omega (arith, length-drop start s))) ∙ length-drop start s in
-    c.in_err-at.ensures.before (k - start) (omega (arith, n, l, u)) (there s start k c.args.byte (omega (arith, l, u)) e))
+    (λ k l u e. c.in_err-at.ensures.before (k - start) (omega (arith, n, l, u))
+    (there s start k c.args.byte (omega (arith, l, u)) e))
 
 pub returns-clause-before : goal.returns-clause-before
 returns-clause-before c = λ k l u e.
